@@ -6,7 +6,7 @@ use denote.Ref.{Bor}
 use Rattle.load_header.specs.declared.header.LoadHeader.{LoadHeader}
 use Rattle.load_header.specs.Header.{HeaderView, header_view}
 use Rattle.accept_rules.specs.declared.kept.KeptLoad.{KeptLoad}
-use Rattle.accept_rules.specs.Interlocks.{Follows}
+use Rattle.accept_rules.specs.Interlocks.{FollowsAccepts}
 use Rattle.accept_rules.specs.Permissions.{Accepts}
 
 -- what the closure is handed: references to a header and to a list of loads
@@ -37,5 +37,5 @@ pub record SaysKnown {F : Type 0} (calls : Shared F Handed Bool) (f : F) (accept
 
 -- A rule that answers so follows what is known.
 pub known_is_followed : {R F : Type 0} (calls : Shared F Handed Bool) (closure : R → F) (accepts : R → Accepts) (rule : R)
-    → Follows (λ (r : R) (header : LoadHeader) (kept : List KeptLoad) (answer : Bool). SaysKnown calls (closure r) (accepts r) header kept answer) rule (accepts rule)
+    → FollowsAccepts (λ (r : R) (header : LoadHeader) (kept : List KeptLoad) (answer : Bool). SaysKnown calls (closure r) (accepts r) header kept answer) rule (accepts rule)
 known_is_followed calls closure accepts rule fields kept answer said = said.says.known ∙ ap (λ (h : HeaderView). accepts rule h kept) said.same

@@ -1,4 +1,4 @@
 pub mod Permissions
 pub mod Interlocks
 pub mod Closures
-pub mod InterlockLaws
+pub mod Laws

@@ -2,8 +2,8 @@
 use crate::{KeptLoad, Rule};
 use load_header::LoadHeader;
 
-/// A value that says which loads a closure accepts, as a function. The contract of a closure says no
-/// more than which answers it may give.
+/// A value that says which loads a closure accepts, as a function. The contract of a closure says
+/// no more than which answers it may give.
 pub trait KnownRule {
     ghost use Rattle.accept_rules.specs.Permissions.{Accepts};
 
@@ -11,8 +11,8 @@ pub trait KnownRule {
     ghost accepts: { Self → Accepts };
 }
 
-/// The rule that a closure is, beside the value that says what it accepts. It may be asked where each
-/// answer that the closure may give is the one that is known.
+/// The rule that a closure is, beside the value that says what it accepts. It may be asked where
+/// each answer that the closure may give is the one that is known.
 #[derive(Drop)]
 pub struct Asks<F: Fn(&LoadHeader, &[KeptLoad]) -> bool, A: KnownRule> {
     pub rule: F,

@@ -1,18 +1,18 @@
 //! The interlock.
 ghost use Rattle.std.specs.Prelude.{◌≡◌, true, false};
 ghost use Rattle.load_header.specs.Header.{header_view};
-ghost use Rattle.accept_rules.specs.Interlocks.{IsInterlock, Says};
+ghost use Rattle.accept_rules.specs.Interlocks.{IsInterlock, MaySayOf};
 ghost use Rattle.accept_rules.specs.Permissions.{Grants, Permits};
 
 use crate::{KeptLoad, Rule};
 use load_header::LoadHeader;
 use std::marker::Model;
 
-/// A rule that keeps four facts: it may be asked of each header beside whichever loads are kept; what
-/// it accepts has a type id other than 0 and a part number that no kept load has; it accepts each such
-/// header with a type id from 1 to 0x7FFF; and it never gives both answers on one header beside the
-/// same loads. From 0x8000 on types are the maker's own, and a rule may accept or refuse them as it
-/// likes.
+/// A rule that keeps four facts: it may be asked of each header beside whichever loads are kept;
+/// what it accepts has a type id other than 0 and a part number that no kept load has; it accepts
+/// each such header with a type id from 1 to 0x7FFF; and it never gives both answers on one header
+/// beside the same loads. From 0x8000 on types are the maker's own, and a rule may accept or refuse
+/// them as it likes.
 #[derive(Drop)]
 pub struct Interlock<R: Rule> {
     rule: R,
@@ -42,7 +42,7 @@ impl<R: Rule> Interlock<R> {
     /// Whether it accepts a load with this header beside these, which stay on the unit. It takes no
     /// memory.
     pub fn admits(&self, header: &LoadHeader, kept: &[KeptLoad]) -> bool
-        ensures says { Says R.may_say self.now (header_view header.now) kept.now result }
+        ensures says { MaySayOf R.may_say self.now (header_view header.now) kept.now result }
         ensures accepts { result ≡ R.accepts self.now (header_view header.now) kept.now }
         ensures yes { result ≡ true → Permits (header_view header.now) kept.now }
         ensures no { result ≡ false → ¬ Grants (header_view header.now) kept.now }

@@ -1,5 +1,5 @@
-//! The interlock: a maker's rule on which loads its unit accepts, asked of each load header and of the
-//! loads that are kept beside it.
+//! The interlock: a maker's rule on which loads its unit accepts, asked of each load header and of
+//! the loads that are kept beside it.
 #![tactic(auto)]
 
 mod asks;

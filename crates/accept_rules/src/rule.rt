@@ -10,7 +10,7 @@ pub trait Rule {
     ghost use Rattle.std.specs.Prelude.{Bool, List};
     ghost use Rattle.load_header.specs.declared.header.LoadHeader.{LoadHeader};
     ghost use Rattle.accept_rules.specs.declared.kept.KeptLoad.{KeptLoad};
-    ghost use Rattle.accept_rules.specs.Interlocks.{Follows};
+    ghost use Rattle.accept_rules.specs.Interlocks.{FollowsAccepts};
     ghost use Rattle.accept_rules.specs.Permissions.{Accepts};
 
     /// It may be asked of this header beside these loads.
@@ -28,18 +28,18 @@ pub trait Rule {
         ensures { may_say self.now header.now kept.now result };
 
     /// Each answer that it may give says what it accepts.
-    ghost follows: { (rule : Self) → Follows may_say rule (accepts rule) };
+    ghost follows: { (rule : Self) → FollowsAccepts may_say rule (accepts rule) };
 }
 
-/// The rule that accepts each load that a rule may accept: one whose type id isn't 0, and whose part
-/// number no kept load has.
+/// The rule that accepts each load that a rule may accept: one whose type id isn't 0, and whose
+/// part number no kept load has.
 #[derive(Clone, Copy)]
 pub struct PermitsAll;
 
 impl Rule for PermitsAll {
     ghost use Rattle.std.specs.Prelude.{⊤};
     ghost use Rattle.load_header.specs.Header.{header_view};
-    ghost use Rattle.accept_rules.specs.InterlockLaws.{a_function_is_followed};
+    ghost use Rattle.accept_rules.specs.Laws.{a_function_is_followed};
     ghost use Rattle.accept_rules.specs.Permissions.{permits};
 
     ghost may_ask = { λ _ _ _. ⊤ };

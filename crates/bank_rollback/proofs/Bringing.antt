@@ -4,13 +4,13 @@ use Rattle.std.specs.Prelude.{is_some}
 use Rattle.field_grammar.specs.Grammar.{Spelled}
 use Rattle.load_base.specs.Config.{LoadView}
 use Rattle.disk_model.specs.Image.{Image, overlay, range}
-use Rattle.disk_model.specs.OverlayLaws.{range_beside_overlay}
+use Rattle.disk_model.proofs.OverlayLemmas.{range_beside_overlay}
 use Rattle.disk_model.specs.State.{DiskState}
 use Rattle.disk_layout.specs.Contents.{entries_of}
 use Rattle.disk_layout.specs.Holds.{HoldsConfig, StandingView}
 use Rattle.disk_layout.specs.Manifest.{manifest}
 use Rattle.disk_layout.specs.Offsets.{bank_at}
-use Rattle.disk_layout.specs.SlotLaws.{offset_is_slot}
+use Rattle.disk_layout.proofs.SlotLemmas.{offset_is_slot}
 use Rattle.disk_layout.specs.Slots.{IsSlot, bank_number, other_bank, other_slot}
 use Rattle.disk_layout.specs.declared.active.Active.{Active}
 use Rattle.bank_store.specs.DiskWrites.{AddsOnly}

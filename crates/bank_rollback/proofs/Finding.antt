@@ -2,7 +2,7 @@
 use Rattle.std.proofs.Common.{◌≡◌, ℕ, sym, ◌∙◌, ap, subst}
 use Rattle.disk_model.specs.Image.{Image}
 use Rattle.disk_layout.specs.Holds.{HoldsConfig, StandingView}
-use Rattle.disk_layout.specs.SlotLaws.{one_slot}
+use Rattle.disk_layout.proofs.SlotLemmas.{one_slot}
 use Rattle.disk_layout.specs.Slots.{manifest_length_of, manifest_offset_of, other_slot}
 use Rattle.bank_store.specs.Fits.{HoldsFor}
 use Rattle.bank_store.specs.Readopting.{HasLoadsAt}

@@ -5,7 +5,7 @@ use Rattle.std.specs.Option.{ForSome}
 use Rattle.load_base.specs.Counts.{Rose}
 use Rattle.load_base.specs.Config.{LoadView}
 use Rattle.disk_model.specs.Image.{Image}
-use Rattle.disk_model.specs.MomentLaws.{leaves_more, power_kept}
+use Rattle.disk_model.proofs.MomentLemmas.{leaves_more, power_kept}
 use Rattle.disk_model.specs.Moments.{LeavesOnly}
 use Rattle.disk_model.specs.State.{DiskState, IsSettled, OnlyReads}
 use Rattle.disk_layout.specs.DiskReads.{ReadsDisk, RunsOn}

@@ -30,12 +30,12 @@ of_store stores.Memory = Memory
 of_store fault = DiskFailed
 
 -- a failure of the disk, and out of memory, are told by their own names
-abbrev pub HasOwnName : RollbackFault → Type 0
-HasOwnName (Former formers.DiskFailed) = ⊥
-HasOwnName (Former formers.Memory) = ⊥
-HasOwnName (Former (formers.Recover recovers.DiskFailed)) = ⊥
-HasOwnName (Former (formers.Recover recovers.Memory)) = ⊥
-HasOwnName fault = ⊤
+abbrev pub RollbackHasOwnName : RollbackFault → Type 0
+RollbackHasOwnName (Former formers.DiskFailed) = ⊥
+RollbackHasOwnName (Former formers.Memory) = ⊥
+RollbackHasOwnName (Former (formers.Recover recovers.DiskFailed)) = ⊥
+RollbackHasOwnName (Former (formers.Recover recovers.Memory)) = ⊥
+RollbackHasOwnName fault = ⊤
 
 -- the text of what is lacking, or the code; a failure of the disk and out of memory are told otherwise
 abbrev pub rollback_fault_text : RollbackFault → List ℕ

@@ -72,8 +72,8 @@ impl Printed for RollbackFault {
 
     ghost longest = { 23 };
 
-    /// The text of the [`FormerFault`], or `K2`. A failure of the disk is told otherwise, and has no
-    /// text here.
+    /// The text of the [`FormerFault`], or `K2`. A failure of the disk is told otherwise, and has
+    /// no text here.
     fn text(&self, alloc: Global) -> Result<Text, NoMemory> {
         match *self {
             RollbackFault::Former(fault) => fault.text(alloc),

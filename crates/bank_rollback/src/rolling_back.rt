@@ -14,7 +14,7 @@ ghost use Rattle.bank_store.specs.Readopting.{HasLoadsAt};
 ghost use Rattle.bank_store.specs.Store.{IsPrepared, active_sequence};
 ghost use Rattle.recovery.specs.Formers.{HasOwnName as IsNamed, ReadsFormer, RefusesFormer};
 ghost use Rattle.bank_rollback.specs.Beside.{CanBringBack, IsFormerAt, LooksFor, StandsBeside};
-ghost use Rattle.bank_rollback.specs.Faults.{HasOwnName};
+ghost use Rattle.bank_rollback.specs.Faults.{RollbackHasOwnName};
 ghost use Rattle.bank_rollback.specs.Rollbacks.{GoesOnAfter, HasRolledBack, LeavesActiveOrFormer};
 ghost use Rattle.bank_rollback.specs.Rollbacks.{RefusesRollback, RollsBack, WritesWhereItCan};
 
@@ -36,13 +36,14 @@ use std::alloc::Global;
 /// After DiskFailed it doesn't until a restart.
 pub fn rollback<K: Disk>(alloc: Global, disk: &mut K) -> Result<Standing, RollbackFault>
     requires { IsRunning (K.state disk.old) }
-    // With Ok: the former loads are active, in the other bank, and a power loss leaves nothing else.
+    // With Ok: the former loads are active, in the other bank, and a power loss leaves nothing
+    // else.
     ensures rolls_back { IfOk result (λ standing.
         RollsBack (K.state disk.old) (K.state disk.new) (standing_view standing)) }
     // Refusals, exactly by what the disk reads.
     ensures refused { IfErr result (λ fault. ForSome (K.state disk.old).reads
         (λ image. RefusesRollback image fault)) }
-    ensures own_name { IfErr result (λ fault. HasOwnName fault) }
+    ensures own_name { IfErr result (λ fault. RollbackHasOwnName fault) }
     // Whatever it answers.
     ensures any_moment { LeavesActiveOrFormer (K.state disk.old) (K.state disk.new) }
     ensures rests { LosesOnlyWork (K.state disk.old) → (K.state disk.new).stopped ≡ false
@@ -57,13 +58,13 @@ pub fn rollback<K: Disk>(alloc: Global, disk: &mut K) -> Result<Standing, Rollba
     Ok(recover(alloc, disk)?)
 }
 
-// Makes the former configuration active, and keeps nothing of it.
+/// Makes the former configuration active, and keeps nothing of it.
 fn make_former_active<K: Disk>(alloc: Global, disk: &mut K) -> Result<(), RollbackFault>
     requires { IsRunning (K.state disk.old) }
     ensures rolled_back { OnOk result (HasRolledBack (K.state disk.old) (K.state disk.new)) }
     ensures refused { IfErr result (λ fault. ForSome (K.state disk.old).reads
         (λ image. RefusesRollback image fault)) }
-    ensures own_name { IfErr result (λ fault. HasOwnName fault) }
+    ensures own_name { IfErr result (λ fault. RollbackHasOwnName fault) }
     ensures any_moment { LeavesActiveOrFormer (K.state disk.old) (K.state disk.new) }
     ensures rests { LosesOnlyWork (K.state disk.old) → (K.state disk.new).stopped ≡ false
         → LosesOnlyWork (K.state disk.new) }
@@ -79,8 +80,8 @@ fn make_former_active<K: Disk>(alloc: Global, disk: &mut K) -> Result<(), Rollba
     Ok(())
 }
 
-/// A former configuration, beside the active one: where its manifest stands in the other bank, and a
-/// store that can name it again.
+/// A former configuration, beside the active one: where its manifest stands in the other bank, and
+/// a store that can name it again.
 #[derive(Drop)]
 struct Beside {
     store: Store,
@@ -88,7 +89,7 @@ struct Beside {
     length: u32,
 }
 
-// Finds the former configuration, and reserves the memory that it takes to make it active.
+/// Finds the former configuration, and reserves the memory that it takes to make it active.
 fn find_beside<K: Disk>(alloc: Global, disk: &mut K) -> Result<Beside, RollbackFault>
     requires { IsRunning (K.state disk.old) }
     ensures found { IfOk result (λ beside. ForSome (K.state disk.old).reads
@@ -98,7 +99,7 @@ fn find_beside<K: Disk>(alloc: Global, disk: &mut K) -> Result<Beside, RollbackF
         → Works beside.store (K.state disk.new)) }
     ensures refused { IfErr result (λ fault. ForSome (K.state disk.old).reads
         (λ image. RefusesRollback image fault)) }
-    ensures own_name { IfErr result (λ fault. HasOwnName fault) }
+    ensures own_name { IfErr result (λ fault. RollbackHasOwnName fault) }
     ensures looks { LooksFor (K.state disk.old) (K.state disk.new) result }
 {
     // For the proof: these do nothing.
@@ -125,7 +126,7 @@ fn find_beside<K: Disk>(alloc: Global, disk: &mut K) -> Result<Beside, RollbackF
     }
 }
 
-// Where the manifest of the former configuration begins in its bank, and how many bytes it has.
+/// Where the manifest of the former configuration begins in its bank, and how many bytes it has.
 fn former_place<K: Disk>(alloc: Global, disk: &mut K) -> Result<(u32, u32), FormerFault>
     requires { IsRunning (K.state disk.old) }
     ensures found { IfOk result (λ at. ForSome (K.state disk.old).reads
@@ -141,7 +142,7 @@ fn former_place<K: Disk>(alloc: Global, disk: &mut K) -> Result<(u32, u32), Form
     Ok((found.place, found.length))
 }
 
-// Makes the configuration active whose manifest stands in the other bank.
+/// Makes the configuration active whose manifest stands in the other bank.
 fn bring_back<K: Disk>(
     store: &mut Store,
     disk: &mut K,

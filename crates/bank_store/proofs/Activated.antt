@@ -7,11 +7,11 @@ use Rattle.std.proofs.lemmas.Bool.{cases_eq}
 use Rattle.disk_model.specs.Image.{Image, overlay, SameOutside}
 use Rattle.disk_model.specs.State.{DiskState, IsSettled, Elapses, Torn}
 use Rattle.disk_model.specs.declared.disk.DiskFault.{DiskFault}
-use Rattle.disk_model.specs.OverlayLaws.{overlay_is, overlay_outside}
+use Rattle.disk_model.proofs.OverlayLemmas.{overlay_is, overlay_outside}
 use Rattle.disk_layout.specs.Slots.{IsOpen, IsSlot, bank_number, manifest_offset_of, manifest_length_of, slot_offset}
 use Rattle.disk_layout.specs.declared.active.Active.{Active}
 use Rattle.disk_layout.specs.declared.active.ManifestRange.{ManifestRange}
-use Rattle.disk_layout.specs.SlotLaws.{offset_is_slot}
+use Rattle.disk_layout.proofs.SlotLemmas.{offset_is_slot}
 use Rattle.disk_layout.specs.Holds.{StandingView, HoldsBy, HoldsConfig}
 use Rattle.bank_store.specs.DiskWrites.{AddsOnly, IsRunning}
 use Rattle.disk_layout.specs.Slots.{other_slot}

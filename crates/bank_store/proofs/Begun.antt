@@ -4,7 +4,7 @@ use Rattle.std.specs.Prelude.{is_some}
 use Rattle.disk_model.specs.Image.{Image, overlay}
 use Rattle.disk_model.specs.State.{DiskState, IsSettled, Elapses, Torn}
 use Rattle.disk_model.specs.declared.disk.DiskFault.{DiskFault}
-use Rattle.disk_model.specs.OverlayLaws.{overlay_inside, overlay_outside}
+use Rattle.disk_model.proofs.OverlayLemmas.{overlay_inside, overlay_outside}
 use Rattle.disk_layout.specs.Slots.{IsOpen}
 use Rattle.disk_layout.specs.Holds.{StandingView, HoldsBy, HoldsConfig}
 use Rattle.bank_store.specs.DiskWrites.{AddsOnly, IsRunning}

@@ -2,12 +2,12 @@
 use Rattle.std.proofs.Common.{◌≡◌, ◌⊎◌, inl, inr, ℕ, zero, suc, ◌+◌, ◌-◌, ◌<◌, ◌≤◌, List, length, Some, refl, sym, ◌∙◌, ap, arith}
 use Rattle.std.specs.Option.{ForSome}
 use Rattle.disk_model.specs.Image.{overlay, range}
-use Rattle.disk_model.specs.OverlayLaws.{overlay_joined, overlay_nothing, range_beside_overlay}
-use Rattle.disk_model.specs.RangeLaws.{length_range}
+use Rattle.disk_model.proofs.OverlayLemmas.{overlay_joined, overlay_nothing, range_beside_overlay}
+use Rattle.disk_model.proofs.RangeLemmas.{length_range}
 use Rattle.disk_model.specs.State.{DiskState, KeepsCounts}
 use Rattle.disk_layout.specs.Offsets.{bank_at}
-use Rattle.disk_layout.specs.RangeLaws.{ranges_joined}
-use Rattle.disk_layout.specs.SlotLaws.{number_below}
+use Rattle.disk_layout.proofs.RangeLemmas.{ranges_joined}
+use Rattle.disk_layout.proofs.SlotLemmas.{number_below}
 use Rattle.bank_store.specs.DiskWrites.{IsRunning, TimeGoesOn}
 use Rattle.bank_store.specs.Fits.{SameButForWork}
 use Rattle.bank_store.specs.Keeps.{KeepsNear}

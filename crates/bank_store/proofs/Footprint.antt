@@ -4,7 +4,7 @@ use Rattle.std.specs.Prelude.{List}
 use Rattle.byteorder.specs.Endian.{big_number}
 use Rattle.field_grammar.specs.Grammar.{Spelled, SpelledAtStart}
 use Rattle.disk_model.specs.Image.{Image, range}
-use Rattle.disk_model.specs.RangeLaws.{same_range}
+use Rattle.disk_model.proofs.RangeLemmas.{same_range}
 use Rattle.disk_layout.specs.Offsets.{slot_a, slot_b, bank_at, number_at}
 use Rattle.disk_layout.specs.Slots.{IsOpen, IsSlot, IsActiveSlot, sequence_of, bank_of, manifest_offset_of, manifest_length_of}
 use Rattle.disk_layout.specs.Identity.{identity}

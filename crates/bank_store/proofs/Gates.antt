@@ -2,21 +2,21 @@
 use Rattle.std.proofs.Common.{◌≡◌, ℕ, ◌+◌, ◌<◌, ◌≤◌, ◌⊎◌, List, [], ◌∷◌, Option, Some, inl, inr, refl, sym, ap, ap₂, subst, ◌∙◌, arith}
 use Rattle.std.proofs.lemmas.Bool.{cases_eq, cases_lt}
 use Rattle.std.proofs.lemmas.List.{nil_from_length}
-use Rattle.disk_model.specs.RangeLaws.{length_range}
+use Rattle.disk_model.proofs.RangeLemmas.{length_range}
 use Rattle.std.proofs.lemmas.List.Elements.{All-nil}
 use Rattle.load_base.specs.Config.{LoadView}
 use Rattle.byteorder.specs.Endian.{big_number}
 use Rattle.disk_model.specs.Image.{Image, range, overlay, SameOutside}
 use Rattle.disk_model.specs.State.{Torn}
-use Rattle.disk_model.specs.OverlayLaws.{overlay_inside, overlay_outside}
+use Rattle.disk_model.proofs.OverlayLemmas.{overlay_inside, overlay_outside}
 use Rattle.field_grammar.specs.Grammar.{Spelled, SpelledAtStart}
 use Rattle.field_grammar.specs.Fields.{number_bytes}
 use Rattle.disk_layout.specs.Offsets.{IsBankSize, slot_a, slot_b, bank_at, longest_identity, number_at}
 use Rattle.disk_layout.specs.Identity.{identity}
 use Rattle.disk_layout.specs.Slots.{IsOpen, sequence_of, bank_of, manifest_offset_of, manifest_length_of}
-use Rattle.disk_layout.specs.SlotLaws.{a_is_active}
+use Rattle.disk_layout.proofs.SlotLemmas.{a_is_active}
 use Rattle.disk_layout.specs.Manifest.{LoadEntry, LoadFits, manifest}
-use Rattle.disk_layout.specs.ManifestSpelling.{manifest_spelling}
+use Rattle.disk_layout.proofs.ManifestSpelling.{manifest_spelling}
 use Rattle.disk_layout.specs.Contents.{HeaderIsFirst}
 use Rattle.disk_layout.specs.Holds.{manifest_at, manifest_of, HoldsConfig}
 use Rattle.disk_layout.specs.declared.manifest.Layout.TheVariants as layouts

@@ -11,13 +11,13 @@ use Rattle.load_base.specs.Name.{IsName}
 use Rattle.load_base.specs.PartText.{IsPartText}
 use Rattle.field_grammar.specs.Fields.{number_bytes, number_fields, short_fields}
 use Rattle.disk_model.specs.Image.{Image, range, overlay}
-use Rattle.disk_model.specs.RangeLaws.{length_range}
-use Rattle.disk_model.specs.OverlayLaws.{range_beside_overlay, range_of_overlay}
+use Rattle.disk_model.proofs.RangeLemmas.{length_range}
+use Rattle.disk_model.proofs.OverlayLemmas.{range_beside_overlay, range_of_overlay}
 use Rattle.disk_layout.specs.Offsets.{most_loads, most_files}
 use Rattle.disk_layout.specs.Manifest.{file_entry_fields, type_fields}
 use Rattle.disk_layout.specs.declared.manifest.Layout.TheVariants as layouts
 use Rattle.disk_layout.specs.Contents.{file_entry_of, bytes_of}
-use Rattle.disk_layout.specs.RangeLaws.{ranges_joined}
+use Rattle.disk_layout.proofs.RangeLemmas.{ranges_joined}
 use Rattle.bank_store.specs.Store.{IsFilling, work_at, SameActive}
 use Rattle.bank_store.specs.Given.{Given, GivenLoad, nothing_given, with_load, with_bytes, with_file, file_to_last, Misses, bytes_given, given_fields, IsFile, IsLoad, HasGiven}
 use Rattle.bank_store.specs.declared.store.Store.{Store}

@@ -2,8 +2,8 @@
 use Rattle.std.proofs.Common.{◌≡◌, ℕ, ◌+◌, ◌≤◌, ◌⊎◌, List, length, Option, Some, None, true, false, inl, inr, refl, sym, ap, ◌∙◌, arith}
 use Rattle.std.specs.Prelude.{is_some}
 use Rattle.disk_model.specs.Image.{Image, range, overlay, SameOutside}
-use Rattle.disk_model.specs.OverlayLaws.{overlay_inside}
-use Rattle.disk_model.specs.RangeLaws.{range_from_offsets, same_range}
+use Rattle.disk_model.proofs.OverlayLemmas.{overlay_inside}
+use Rattle.disk_model.proofs.RangeLemmas.{range_from_offsets, same_range}
 
 -- the bytes that were written stand there
 pub written : (image : Image) (at : ℕ) (bytes : List ℕ) → range (overlay image at bytes) at (length bytes) ≡ bytes

@@ -8,25 +8,25 @@ use Rattle.std.proofs.lemmas.List.Elements.{All-nil, All-cons, All-head, All-tai
 use Rattle.std.proofs.lemmas.List.Sums.{sum_by-append}
 use Rattle.load_base.specs.Config.{FileView, LoadView}
 use Rattle.disk_model.specs.Image.{Image, overlay, range}
-use Rattle.disk_model.specs.OverlayLaws.{range_beside_overlay, range_of_overlay}
-use Rattle.disk_model.specs.RangeLaws.{drop_range, length_range, take_range}
+use Rattle.disk_model.proofs.OverlayLemmas.{range_beside_overlay, range_of_overlay}
+use Rattle.disk_model.proofs.RangeLemmas.{drop_range, length_range, take_range}
 use Rattle.disk_layout.specs.Contents.{bytes_of, contents_of_loads, entries_of, entry_of, file_entry_of}
 use Rattle.disk_layout.specs.Entries.{SaysLoads, StandsAfter, entry_bytes}
-use Rattle.disk_layout.specs.EntriesLaws.{all_are_typed, entry_bytes_first, entry_is_short, entry_is_there, entry_within, load_fits, none_is_typed}
+use Rattle.disk_layout.proofs.EntriesLemmas.{all_are_typed, entry_bytes_first, entry_is_short, entry_is_there, entry_within, load_fits, none_is_typed}
 use Rattle.disk_layout.specs.Holds.{StandingView}
 use Rattle.disk_layout.specs.Manifest.{FileFits, LoadEntry, LoadFits, ManifestFits, entries_length, load_entry_fields, total_length}
-use Rattle.disk_layout.specs.ManifestSpelling.{manifest_spelling}
+use Rattle.disk_layout.proofs.ManifestSpelling.{manifest_spelling}
 use Rattle.disk_layout.specs.Offsets.{bank_at, most_loads}
-use Rattle.disk_layout.specs.RangeLaws.{ranges_joined}
+use Rattle.disk_layout.proofs.RangeLemmas.{ranges_joined}
 use Rattle.disk_layout.specs.declared.entries.LoadPlace.{LoadPlace}
 use Rattle.disk_layout.specs.declared.manifest.Layout.{Layout}
 use Rattle.disk_layout.specs.declared.manifest.Layout.TheVariants as layouts
 use Rattle.disk_layout.specs.declared.manifest.ManifestFile.{ManifestFile}
 use Rattle.bank_store.specs.Bounds.{longest_load}
-use Rattle.bank_store.specs.KnownLaws.{entry_has_bytes}
+use Rattle.bank_store.proofs.KnownLemmas.{entry_has_bytes}
 use Rattle.bank_store.specs.Fits.{HoldsFor}
 use Rattle.bank_store.specs.Given.{Given, GivenLoad, HasGiven, IsFile, IsLoad, Misses, bytes_given, given_fields, whole_given, with_whole}
-use Rattle.bank_store.specs.Store.{IsFilling, IsKept, PassesByKept, SameActive, active_at, known_of, knows_entry, load_kept, with_piece, work_at}
+use Rattle.bank_store.specs.Store.{IsFilling, IsKeptLoad, PassesByKept, SameActive, active_at, known_of, knows_entry, load_kept, with_piece, work_at}
 use Rattle.bank_store.specs.declared.store.Store.{Store}
 use Rattle.bank_store.specs.declared.fault.StoreFault.TheVariants.{BankFull}
 use Rattle.bank_store.specs.declared.stage.Stage.{Stage}
@@ -40,7 +40,7 @@ use Rattle.bank_store.proofs.Written.{told_as}
 -- ---- the loads that are known
 
 -- a store that knows a load knows all of the configuration that the image holds
-pub knows_all : (store : Store) (image : Image) (s : StandingView) (load : ℕ) → HoldsFor store image s → IsKept store load → SaysLoads (known_of store) (entries_of s.loads)
+pub knows_all : (store : Store) (image : Image) (s : StandingView) (load : ℕ) → HoldsFor store image s → IsKeptLoad store load → SaysLoads (known_of store) (entries_of s.loads)
 knows_all store image s load was is =
     let text = (manifest_spelling _ (entries_of s.loads)).0 was.by.outline.manifest in by_layout text.0 text.1
   where
@@ -119,7 +119,7 @@ bytes_with_whole load g none =
     ap₂ (λ (a : List ℕ) (b : List ℕ). a ++ b) all empty ∙ append-nil (bytes_of files ++ bytes_of load.files)
     ∙ ap (λ (l : List ℕ). l ++ bytes_of load.files) (sym (append-nil (bytes_of files)) ∙ ap (λ (l : List ℕ). bytes_of files ++ l) (sym empty))
 
-module _ (old new : Store) (image now : Image) (s : StandingView) (g : Given) (load : ℕ) (is : IsKept old load) (place : LoadPlace) (progress : Filling) (n : ℕ) (front back : List LoadView) (kept : LoadView)
+module _ (old new : Store) (image now : Image) (s : StandingView) (g : Given) (load : ℕ) (is : IsKeptLoad old load) (place : LoadPlace) (progress : Filling) (n : ℕ) (front back : List LoadView) (kept : LoadView)
     (stands : (before behind : List LoadEntry) (entry : LoadEntry) → SaysLoads (known_of old) (before ++ entry ∷ behind) → length before + 1 ≡ load → StandsAfter before entry place)
     (same : SameActive old new) (filling : IsFilling old progress) (none : progress.missing ≡ 0) (few : progress.loads < most_loads) (stage : IsFilling new (load_kept n progress)) (whole : n ≡ place.files_length)
     (body : new.body.items ≡ old.body.items ++ knows_entry old place) (copied : now ≡ overlay image (work_at old + progress.end) (range image (active_at old + place.files) n))
@@ -199,32 +199,32 @@ module _ (old new : Store) (image now : Image) (s : StandingView) (g : Given) (l
 abbrev pub IsPlaceOf : Store → ℕ → LoadPlace → Type 0
 IsPlaceOf store load place = (before behind : List LoadEntry) (entry : LoadEntry) → SaysLoads (known_of store) (before ++ entry ∷ behind) → length before + 1 ≡ load → StandsAfter before entry place
 
-pub place_is : (store : Store) (load : ℕ) (place : LoadPlace) (is : IsKept store load) → IsPlaceOf store load place → StandsAfter is.before is.kept place
+pub place_is : (store : Store) (load : ℕ) (place : LoadPlace) (is : IsKeptLoad store load) → IsPlaceOf store load place → StandsAfter is.before is.kept place
 place_is store load place is stands = stands is.before is.behind is.kept is.says is.is_at
 
-pub place_within : (store : Store) (load : ℕ) (place : LoadPlace) → IsKept store load → IsPlaceOf store load place → place.entry + place.entry_length ≤ length (known_of store)
+pub place_within : (store : Store) (load : ℕ) (place : LoadPlace) → IsKeptLoad store load → IsPlaceOf store load place → place.entry + place.entry_length ≤ length (known_of store)
 place_within store load place is stands =
     let there = place_is store load place is stands in
     omega (arith, there.entry, there.entry_length, entry_within (known_of store) is.before is.behind is.kept is.says)
 
-pub place_short : (store : Store) (load : ℕ) (place : LoadPlace) → IsKept store load → IsPlaceOf store load place → place.entry_length ≤ longest_load
+pub place_short : (store : Store) (load : ℕ) (place : LoadPlace) → IsKeptLoad store load → IsPlaceOf store load place → place.entry_length ≤ longest_load
 place_short store load place is stands =
     let there = place_is store load place is stands in
     omega (arith, there.entry_length, entry_is_short is.kept (load_fits layouts.Two is.before is.behind is.kept is.says.fits))
 
-pub place_says : (store : Store) (load : ℕ) (place : LoadPlace) (is : IsKept store load) → IsPlaceOf store load place → knows_entry store place ≡ entry_bytes (is.kept ∷ [])
+pub place_says : (store : Store) (load : ℕ) (place : LoadPlace) (is : IsKeptLoad store load) → IsPlaceOf store load place → knows_entry store place ≡ entry_bytes (is.kept ∷ [])
 place_says store load place is stands =
     let there = place_is store load place is stands in
     ap₂ (λ (m : ℕ) (f : ℕ). take m (drop f (known_of store))) there.entry_length there.entry ∙ entry_is_there (known_of store) is.before is.behind is.kept is.says
     ∙ sym (entry_bytes_first is.kept [] ∙ append-nil (concat (load_entry_fields layouts.Two is.kept)))
 
-pub place_kept : (store : Store) (load n : ℕ) (place : LoadPlace) (progress other : Filling) (is : IsKept store load) → IsPlaceOf store load place → n ≡ place.files_length → IsFilling store progress
+pub place_kept : (store : Store) (load n : ℕ) (place : LoadPlace) (progress other : Filling) (is : IsKeptLoad store load) → IsPlaceOf store load place → n ≡ place.files_length → IsFilling store progress
     → IsFilling store other → ◌≡◌ {A = Stage} (stages.Filling (load_kept n progress)) (stages.Filling (load_kept (entries_length is.kept.files) other))
 place_kept store load n place progress other is stands count filling too =
     ap₂ (λ (m : ℕ) (f : Filling). stages.Filling (load_kept m f)) (count ∙ (place_is store load place is stands).files_length) (same_filling progress other (sym filling ∙ too))
 
 -- what is copied, as its record says it
-pub place_copied : (store : Store) (load n : ℕ) (place : LoadPlace) (progress other : Filling) (is : IsKept store load) (image : Image) (from to : ℕ) → IsPlaceOf store load place → n ≡ place.files_length
+pub place_copied : (store : Store) (load n : ℕ) (place : LoadPlace) (progress other : Filling) (is : IsKeptLoad store load) (image : Image) (from to : ℕ) → IsPlaceOf store load place → n ≡ place.files_length
     → from ≡ active_at store + place.files → to ≡ work_at store + progress.end → IsFilling store progress → IsFilling store other
     → told_as (overlay image to (range image from n)) ≡ told_as (with_piece store other (range image (active_at store + total_length is.before) (entries_length is.kept.files)) image)
 place_copied store load n place progress other is image from to stands count source target filling too =
@@ -241,7 +241,7 @@ full_parts a b c d e = (cc, cc)
 full_same : (a b c d : ℕ) → a ≡ c → b ≡ d → IsErrOf {T = Unit {0}} (Err (BankFull a b)) (BankFull c d)
 full_same a b c d first second = ap₂ (λ (n : ℕ) (h : ℕ). Err (BankFull n h)) first second
 
-pub passes_by : (store : Store) (load : ℕ) (place : LoadPlace) (progress : Filling) (need size : ℕ) → IsKept store load → IsPlaceOf store load place → IsFilling store progress → need ≡ progress.end + place.files_length
+pub passes_by : (store : Store) (load : ℕ) (place : LoadPlace) (progress : Filling) (need size : ℕ) → IsKeptLoad store load → IsPlaceOf store load place → IsFilling store progress → need ≡ progress.end + place.files_length
     → size ≡ store.size → size < need → (n h : ℕ) → IsErrOf {T = Unit {0}} (Err (BankFull need size)) (BankFull n h) ↔ PassesByKept store load n h
 passes_by store load place progress need size is stands filling needs sized more n h = (
   λ refused.

@@ -4,14 +4,14 @@ use Rattle.std.specs.List.{concat, flat_map}
 use Rattle.std.proofs.Math.Seq.{drop-append_seam, take-append_seam}
 use Rattle.field_grammar.specs.Fields.{number_bytes, number_in}
 use Rattle.field_grammar.specs.Grammar.{Spelled}
-use Rattle.field_grammar.specs.NumberLaws.{length_number_bytes, wide2}
+use Rattle.field_grammar.proofs.NumberLemmas.{length_number_bytes, wide2}
 use Rattle.disk_model.specs.Image.{Image, range}
-use Rattle.disk_model.specs.RangeLaws.{drop_range, length_range, take_range}
+use Rattle.disk_model.proofs.RangeLemmas.{drop_range, length_range, take_range}
 use Rattle.disk_layout.specs.Offsets.{layout_mark}
 use Rattle.disk_layout.specs.Entries.{entry_bytes, typed_loads}
-use Rattle.disk_layout.specs.EntriesLaws.{all_are_typed, none_is_typed}
+use Rattle.disk_layout.proofs.EntriesLemmas.{all_are_typed, none_is_typed}
 use Rattle.disk_layout.specs.Manifest.{LoadEntry, ManifestFits, load_entry_fields, manifest, manifest_fields}
-use Rattle.disk_layout.specs.ManifestSpelling.{manifest_spelling}
+use Rattle.disk_layout.proofs.ManifestSpelling.{manifest_spelling}
 use Rattle.disk_layout.specs.declared.manifest.Layout.{Layout}
 use Rattle.disk_layout.specs.declared.manifest.Layout.TheVariants as layouts
 

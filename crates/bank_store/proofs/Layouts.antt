@@ -2,12 +2,12 @@
 use Rattle.std.proofs.Common.{◌≡◌, ℕ, ◌+◌, ◌<◌, ◌≤◌, ◌⊎◌, List, [], ◌∷◌, length, get_or, refl, sym, ap, subst, inl, inr, ◌∙◌, arith}
 use Rattle.byteorder.specs.Endian.{big_number}
 use Rattle.disk_model.specs.Image.{Image, range, overlay}
-use Rattle.disk_model.specs.OverlayLaws.{overlay_outside}
-use Rattle.disk_model.specs.RangeLaws.{byte_of_range}
+use Rattle.disk_model.proofs.OverlayLemmas.{overlay_outside}
+use Rattle.disk_model.proofs.RangeLemmas.{byte_of_range}
 use Rattle.disk_layout.specs.Offsets.{slot_a, slot_b, longest_identity, number_at}
 use Rattle.disk_layout.specs.Identity.{HasIdentity, identity_text}
 use Rattle.disk_layout.specs.declared.identity.Identity.{Identity}
-use Rattle.disk_layout.specs.SlotBodyLaws.{part_is}
+use Rattle.disk_layout.proofs.SlotBodyLemmas.{part_is}
 use Rattle.bank_store.specs.Formatting.{IsShut, IsLaidOut, IsUntouched, SameButForGates, laid_out}
 use Rattle.bank_store.proofs.Gates.{other_offset}
 use Rattle.bank_store.proofs.Images.{written, apart}

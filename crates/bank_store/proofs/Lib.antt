@@ -26,3 +26,4 @@ mod Shutting
 pub mod Sizes
 pub mod Working
 pub mod Written
+pub mod KnownLemmas

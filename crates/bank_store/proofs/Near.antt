@@ -4,7 +4,7 @@ use Rattle.std.proofs.lemmas.Bool.{cases_eq, cases_lt}
 use Rattle.disk_model.specs.Image.{Image, SameOutside}
 use Rattle.disk_layout.specs.Offsets.{bank_at}
 use Rattle.disk_layout.specs.Slots.{IsOpen, IsSlot, manifest_offset_of, manifest_length_of}
-use Rattle.disk_layout.specs.SlotLaws.{offset_is_slot}
+use Rattle.disk_layout.proofs.SlotLemmas.{offset_is_slot}
 use Rattle.disk_layout.specs.Holds.{StandingView, HoldsBy, HoldsConfig}
 use Rattle.disk_layout.specs.Slots.{other_slot}
 use Rattle.bank_store.specs.Store.{active_slot, work_at}

@@ -5,17 +5,17 @@ use Rattle.std.proofs.lemmas.List.{append-nil, nil_from_length}
 use Rattle.byteorder.specs.Endian.{big_number}
 use Rattle.field_grammar.specs.Grammar.{SpelledAtStart}
 use Rattle.field_grammar.specs.Fields.{number_bytes}
-use Rattle.field_grammar.specs.NumberLaws.{length_number_bytes}
+use Rattle.field_grammar.proofs.NumberLemmas.{length_number_bytes}
 use Rattle.disk_model.specs.Image.{Image, range, overlay}
-use Rattle.disk_model.specs.RangeLaws.{same_range}
-use Rattle.disk_model.specs.OverlayLaws.{overlay_inside, overlay_outside, overlay_joined, range_of_overlay, range_beside_overlay}
+use Rattle.disk_model.proofs.RangeLemmas.{same_range}
+use Rattle.disk_model.proofs.OverlayLemmas.{overlay_inside, overlay_outside, overlay_joined, range_of_overlay, range_beside_overlay}
 use Rattle.disk_layout.specs.Offsets.{slot_b, bank_at, layout_mark, number_at, longest_manifest}
 use Rattle.disk_layout.specs.Slots.{IsOpen, IsSlot, IsActiveSlot, sequence_of, bank_of, manifest_offset_of, manifest_length_of}
-use Rattle.disk_layout.specs.SlotLaws.{offset_is_slot, number_below}
-use Rattle.disk_layout.specs.SlotBodyLaws.{body_length, says_sequence, says_bank, says_offset, says_length}
+use Rattle.disk_layout.proofs.SlotLemmas.{offset_is_slot, number_below}
+use Rattle.disk_layout.proofs.SlotBodyLemmas.{body_length, says_sequence, says_bank, says_offset, says_length}
 use Rattle.disk_layout.specs.Identity.{identity}
 use Rattle.disk_layout.specs.Manifest.{manifest_fields}
-use Rattle.disk_layout.specs.ManifestSpelling.{manifest_spelling}
+use Rattle.disk_layout.proofs.ManifestSpelling.{manifest_spelling}
 use Rattle.disk_layout.specs.Contents.{entries_of, bytes_of}
 use Rattle.disk_layout.specs.Holds.{StandingView, HoldsBy, manifest_at, manifest_of}
 use Rattle.disk_layout.specs.Slots.{other_slot}
@@ -23,7 +23,7 @@ use Rattle.disk_layout.specs.declared.manifest.Layout.TheVariants as layouts
 use Rattle.bank_store.specs.Bounds.{IsFillingInRange}
 use Rattle.disk_layout.specs.Slots.{other_bank}
 use Rattle.bank_store.specs.Store.{active_slot, active_bank, active_sequence, IsFilling, work_at, head_bytes, manifest_length, slot_body, with_manifest, with_slot}
-use Rattle.bank_store.specs.Given.{Given, GivenLoad, HasGiven, IsWhole, Misses, bytes_given, configured, loads_of, load_of}
+use Rattle.bank_store.specs.Given.{Given, GivenLoad, HasGiven, IsWholeLoad, Misses, bytes_given, configured, loads_of, load_of}
 use Rattle.bank_store.specs.Fits.{HoldsFor}
 use Rattle.bank_store.specs.declared.store.Store.{Store}
 use Rattle.bank_store.specs.declared.stage.Stage.{Stage}
@@ -218,7 +218,7 @@ module _ (store : Store) (progress : Filling) (image : Image) (s : StandingView)
   bank_at_work : bank_at s.identity.bank (other_bank s.bank) ≡ work_at store
   bank_at_work = ap₂ (λ (n : ℕ) (b : ℕ). bank_at n (other_bank b)) was.size was.bank
 
-  pub whole : All (λ (l : GivenLoad). IsWhole l) g.loads
+  pub whole : All (λ (l : GivenLoad). IsWholeLoad l) g.loads
   whole = all_whole g.loads (subst (λ (n : ℕ). Misses n g.loads) (ap (λ (f : Filling). f.missing) same_far ∙ none) has.missing)
 
   given : bytes_given g ≡ bytes_of (flat_map (λ (l : GivenLoad). l.files) g.loads)

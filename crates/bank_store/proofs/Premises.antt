@@ -8,7 +8,7 @@ use Rattle.disk_layout.specs.DiskReads.{RunsOn}
 use Rattle.disk_layout.specs.Holds.{StandingView, HoldsBy, HoldsConfig}
 use Rattle.disk_layout.specs.Offsets.{bank_at}
 use Rattle.disk_layout.specs.Slots.{IsOpen, other_slot}
-use Rattle.disk_layout.specs.SlotLaws.{one_slot}
+use Rattle.disk_layout.proofs.SlotLemmas.{one_slot}
 use Rattle.bank_store.specs.DiskWrites.{IsRunning}
 use Rattle.bank_store.specs.Store.{active_slot, work_at, IsIdle}
 use Rattle.bank_store.specs.Fits.{HoldsFor, HoldsAt, Fits, IsWorkBeside, LosesOnlyWork, MayChange, Works, InstallsBeside}

@@ -3,9 +3,9 @@ use Rattle.std.proofs.Common.{◌≡◌, ℕ, ◌+◌, ◌≤◌, List, [], ◌+
 use Rattle.std.specs.Option.{ForSome}
 use Rattle.load_base.specs.Listed.{Listed}
 use Rattle.disk_model.specs.Image.{range}
-use Rattle.disk_model.specs.MomentLaws.{reads_joined}
+use Rattle.disk_model.proofs.MomentLemmas.{reads_joined}
 use Rattle.disk_model.specs.State.{DiskState, KeepsCounts, OnlyReads}
-use Rattle.disk_layout.specs.RangeLaws.{ranges_joined}
+use Rattle.disk_layout.proofs.RangeLemmas.{ranges_joined}
 use Rattle.bank_store.specs.Bounds.{HasCapacity}
 use Rattle.bank_store.specs.DiskWrites.{IsRunning}
 

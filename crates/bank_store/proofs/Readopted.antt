@@ -4,14 +4,14 @@ use Rattle.byteorder.specs.Endian.{big_number}
 use Rattle.field_grammar.specs.Grammar.{Spelled, SpelledAtStart}
 use Rattle.load_base.specs.Config.{LoadView}
 use Rattle.disk_model.specs.Image.{Image, range, overlay}
-use Rattle.disk_model.specs.RangeLaws.{same_range}
+use Rattle.disk_model.proofs.RangeLemmas.{same_range}
 use Rattle.disk_model.specs.State.{DiskState, IsSettled, OnlyReads}
-use Rattle.disk_model.specs.OverlayLaws.{overlay_inside, overlay_outside, range_of_overlay, range_beside_overlay}
+use Rattle.disk_model.proofs.OverlayLemmas.{overlay_inside, overlay_outside, range_of_overlay, range_beside_overlay}
 use Rattle.disk_layout.specs.Entries.{entry_bytes, typed_loads}
 use Rattle.disk_layout.specs.Offsets.{slot_b, bank_at, number_at}
 use Rattle.disk_layout.specs.Slots.{IsOpen, IsSlot, IsActiveSlot, other_slot, other_bank, sequence_of, bank_of, manifest_offset_of, manifest_length_of}
-use Rattle.disk_layout.specs.SlotLaws.{offset_is_slot, number_below}
-use Rattle.disk_layout.specs.SlotBodyLaws.{says_sequence, says_bank, says_offset, says_length}
+use Rattle.disk_layout.proofs.SlotLemmas.{offset_is_slot, number_below}
+use Rattle.disk_layout.proofs.SlotBodyLemmas.{says_sequence, says_bank, says_offset, says_length}
 use Rattle.disk_layout.specs.Identity.{identity}
 use Rattle.disk_layout.specs.Manifest.{manifest}
 use Rattle.disk_layout.specs.Contents.{entries_of}

@@ -3,7 +3,7 @@ use Rattle.std.proofs.Common.{◌≡◌, ◌⊎◌, inl, inr, ℕ, ◌+◌, ◌<
 use Rattle.std.proofs.lemmas.Bool.{cases_lt}
 use Rattle.disk_model.specs.Image.{Image, overlay}
 use Rattle.disk_model.specs.State.{DiskState}
-use Rattle.disk_model.specs.OverlayLaws.{overlay_outside}
+use Rattle.disk_model.proofs.OverlayLemmas.{overlay_outside}
 use Rattle.disk_layout.specs.Slots.{other_slot}
 use Rattle.bank_store.specs.Fits.{MayChange, SameButForWork}
 use Rattle.bank_store.specs.Keeps.{IsBeside, LeavesRest}

@@ -3,11 +3,11 @@ use Rattle.std.proofs.Common.{◌≡◌, ◌⊎◌, inl, inr, ℕ, zero, suc, �
 use Rattle.std.specs.Prelude.{is_some, IsErr, true, false}
 use Rattle.std.proofs.lemmas.Bool.{cases_eq}
 use Rattle.disk_model.specs.Image.{Image, SameOutside}
-use Rattle.disk_model.specs.OverlayLaws.{overlay_inside, overlay_outside}
+use Rattle.disk_model.proofs.OverlayLemmas.{overlay_inside, overlay_outside}
 use Rattle.disk_model.specs.State.{DiskState, IsSettled, OnlyReads, Torn}
 use Rattle.disk_layout.specs.Offsets.{slot_a, slot_b, bank_at}
 use Rattle.disk_layout.specs.Slots.{IsOpen, IsSlot, IsActiveSlot, other_slot, slot_offset}
-use Rattle.disk_layout.specs.SlotLaws.{a_is_active, b_is_active, one_slot, offset_is_slot}
+use Rattle.disk_layout.proofs.SlotLemmas.{a_is_active, b_is_active, one_slot, offset_is_slot}
 use Rattle.disk_layout.specs.Holds.{HoldsBy}
 use Rattle.disk_layout.specs.declared.active.Slot.{Slot}
 use Rattle.bank_store.specs.DiskWrites.{AddsOnly}

@@ -1,7 +1,7 @@
 -- How many bytes there are after a part more.
 use Rattle.std.proofs.Common.{◌≡◌, ℕ, ◌+◌, List, ◌++◌, length, ap, arith, length-append}
 use Rattle.field_grammar.specs.Fields.{number_bytes}
-use Rattle.field_grammar.specs.NumberLaws.{length_number_bytes}
+use Rattle.field_grammar.proofs.NumberLemmas.{length_number_bytes}
 
 -- how much a load, and a file, adds to a manifest
 pub load_more : (old new part : List ℕ) (type_id files : ℕ) → new ≡ ((old ++ part) ++ number_bytes 2 type_id) ++ number_bytes 2 files → length part ≡ 15 → length new + 4 ≡ length old + 4 + 19

@@ -4,7 +4,7 @@ use Rattle.std.specs.Prelude.{is_some}
 use Rattle.std.proofs.lemmas.Bool.{cases_lt}
 use Rattle.disk_model.specs.Image.{Image, overlay}
 use Rattle.disk_model.specs.State.{DiskState, Elapses, Torn, IsSettled}
-use Rattle.disk_model.specs.OverlayLaws.{overlay_outside}
+use Rattle.disk_model.proofs.OverlayLemmas.{overlay_outside}
 use Rattle.disk_model.specs.declared.disk.DiskFault.{DiskFault}
 use Rattle.disk_layout.specs.Holds.{StandingView, HoldsConfig}
 use Rattle.bank_store.specs.DiskWrites.{AddsOnly, IsRunning}

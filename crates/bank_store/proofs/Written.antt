@@ -2,7 +2,7 @@
 use Rattle.std.proofs.Common.{◌≡◌, ◌⊎◌, inl, inr, ℕ, ◌+◌, ◌<◌, ◌≤◌, List, [], ◌∷◌, length, Option, Some, true, false, refl, sym, ap, ap₂, ◌∙◌, arith}
 use Rattle.std.proofs.lemmas.Bool.{cases_lt}
 use Rattle.disk_model.specs.Image.{Image, overlay}
-use Rattle.disk_model.specs.OverlayLaws.{overlay_outside}
+use Rattle.disk_model.proofs.OverlayLemmas.{overlay_outside}
 use Rattle.disk_layout.specs.Slots.{other_slot}
 use Rattle.bank_store.specs.Store.{active_slot, IsFilling, work_at, manifest_length, with_gate_shut, with_piece, with_manifest, with_slot}
 use Rattle.bank_store.specs.declared.stage.Filling.{Filling}

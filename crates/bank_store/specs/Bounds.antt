@@ -33,7 +33,7 @@ abbrev pub HasCapacity : Listed ℕ → Type 0
 HasCapacity bytes = longest_manifest ≤ bytes.spare + length bytes.items
 
 -- a begun installation has shut the other gate, can count on, and has capacity for its manifest, and for the next one
-pub record HasBegun (sequence : ℕ) (known : Listed ℕ) (other_is_open : Bool) (body : Listed ℕ) : Type 0 where
+pub record InstallationHasBegun (sequence : ℕ) (known : Listed ℕ) (other_is_open : Bool) (body : Listed ℕ) : Type 0 where
   pub shut : other_is_open ≡ false
   pub goes_on : sequence < 4294967295
   pub spare : HasCapacity body
@@ -43,6 +43,6 @@ pub record IsStore (size : ℕ) (active : Active) (known : Listed ℕ) (other_is
   pub is_size : IsBankSize size
   pub manifest : IsManifestRange largest_bank active.manifest
   pub idle : stage ≡ stages.Idle → body.items ≡ []
-  pub begun : stage ≢ stages.Idle → HasBegun active.sequence known other_is_open body
+  pub begun : stage ≢ stages.Idle → InstallationHasBegun active.sequence known other_is_open body
   pub in_range : (progress : Filling) → stage ≡ stages.Filling progress → IsFillingInRange size body progress
   pub sealed : (manifest : ManifestRange) → stage ≡ stages.Sealed manifest → IsManifestRange largest_bank manifest

@@ -62,14 +62,14 @@ with_whole load g = record { loads = g.loads ++ whole_given load ∷ []; bytes =
 -- ---- what it comes to
 
 -- a load whose files are all there
-abbrev pub IsWhole : GivenLoad → Type 0
-IsWhole load = length load.files ≡ load.announced
+abbrev pub IsWholeLoad : GivenLoad → Type 0
+IsWholeLoad load = length load.files ≡ load.announced
 
 -- each load has all its files, but the last, of which this many are still to end
 abbrev pub Misses : ℕ → List GivenLoad → Type 0
 Misses missing [] = missing ≡ 0
 Misses missing (load ∷ []) = length load.files + missing ≡ load.announced
-Misses missing (load ∷ next ∷ loads) = IsWhole load × Misses missing (next ∷ loads)
+Misses missing (load ∷ next ∷ loads) = IsWholeLoad load × Misses missing (next ∷ loads)
 
 -- the header of a load is its first file
 abbrev pub load_of : GivenLoad → LoadView

@@ -9,7 +9,7 @@ use Rattle.disk_layout.specs.Manifest.{entries_length, total_length}
 use Rattle.disk_layout.specs.Slots.{IsOpen, other_slot, manifest_offset_of, manifest_length_of}
 use Rattle.disk_layout.specs.Holds.{StandingView, HoldsConfig, HoldsBy}
 use Rattle.bank_store.specs.DiskWrites.{AddsOnly, IsAnswered, IsRunning}
-use Rattle.bank_store.specs.Store.{active_at, active_slot, body_of, work_at, IsKept, IsSealed, IsFilling, IsPrepared, SameActive, load_kept, Switches, nothing_filled, bytes_appended, manifest_length, with_gate_shut, with_piece, with_manifest, with_slot, with_gate_open}
+use Rattle.bank_store.specs.Store.{active_at, active_slot, body_of, work_at, IsKeptLoad, IsSealed, IsFilling, IsPrepared, SameActive, load_kept, Switches, nothing_filled, bytes_appended, manifest_length, with_gate_shut, with_piece, with_manifest, with_slot, with_gate_open}
 use Rattle.bank_store.specs.Given.{Given, HasGiven, nothing_given, with_bytes, with_whole, loads_of, configured}
 use Rattle.bank_store.specs.Fits.{HoldsFor, HasWork, IsReady, SameButForWork, Fits, Works, InstallsBeside, CanActivate}
 use Rattle.bank_store.specs.declared.fault.StoreFault.{StoreFault}
@@ -96,9 +96,9 @@ pub record Appends (before after : Store) (old new : DiskState) (bytes : List �
 -- The files of a load of the active configuration stand after the contents, and the manifest says of it what the active one
 -- says.
 pub record KeepsLoad (before after : Store) (old new : DiskState) (load : ℕ) : Type 0 where
-  pub filling : (is : IsKept before load) (progress : Filling) → IsFilling before progress → IsFilling after (load_kept (entries_length is.kept.files) progress)
-  pub manifest : (is : IsKept before load) → body_of after ≡ body_of before ++ entry_bytes (is.kept ∷ [])
-  pub written : ForSome old.reads (λ image. (is : IsKept before load) (progress : Filling) → IsFilling before progress
+  pub filling : (is : IsKeptLoad before load) (progress : Filling) → IsFilling before progress → IsFilling after (load_kept (entries_length is.kept.files) progress)
+  pub manifest : (is : IsKeptLoad before load) → body_of after ≡ body_of before ++ entry_bytes (is.kept ∷ [])
+  pub written : ForSome old.reads (λ image. (is : IsKeptLoad before load) (progress : Filling) → IsFilling before progress
       → new.reads ≡ Some (with_piece before progress (range image (active_at before + total_length is.before) (entries_length is.kept.files)) image))
   pub given : ForSome old.reads (λ image. ForSome new.reads (λ now. (s : StandingView) (g : Given) → HoldsFor before image s → HasGiven before image g
       → (front back : List LoadView) (kept : LoadView) → s.loads ≡ front ++ kept ∷ back → length front + 1 ≡ load

@@ -6,6 +6,5 @@ pub mod Formatting
 pub mod Given
 pub mod Keeps
 pub mod Known
-pub mod KnownLaws
 pub mod Readopting
 pub mod Store

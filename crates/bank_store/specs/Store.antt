@@ -121,7 +121,7 @@ PassesBank store n need have =
     (progress : Filling) × IsFilling store progress × (need ≡ progress.end + n) × (have ≡ store.size) × (have < need)
 
 -- the active configuration has a load of this number, counted from 1, with a type id, and its files lie in the bank
-pub record IsKept (store : Store) (load : ℕ) : Type 0 where
+pub record IsKeptLoad (store : Store) (load : ℕ) : Type 0 where
   pub before : List LoadEntry
   pub kept : LoadEntry
   pub behind : List LoadEntry
@@ -135,7 +135,7 @@ knows_entry store place = take place.entry_length (drop place.entry (known_of st
 
 -- with its files after the contents the other bank would need this many bytes, more than it has
 abbrev pub PassesByKept : Store → (load need have : ℕ) → Type 0
-PassesByKept store load need have = (is : IsKept store load) × PassesBank store (entries_length is.kept.files) need have
+PassesByKept store load need have = (is : IsKeptLoad store load) × PassesBank store (entries_length is.kept.files) need have
 
 -- the active configuration has the last sequence number
 abbrev pub IsSpent : Store → Type 0

@@ -16,14 +16,14 @@ use disk_layout::offsets::{BANKS, OPEN, SEQUENCE_IN_SLOT, SLOT_A, SLOT_LENGTH};
 use disk_layout::{Identity, Slot, SlotFields, an_identity_is_read_again};
 use disk_model::{Disk, DiskFault};
 
-// A gate that isn't open.
+/// A gate that isn't open.
 const SHUT: u8 = 0;
 
-// The manifest of a configuration without loads: the mark of its layout, and their number.
+/// The manifest of a configuration without loads: the mark of its layout, and their number.
 const NO_LOADS: [u8; 4] = [0xA0, 0x02, 0, 0];
 
-// What the first slot says from its sequence on: sequence 1, bank 0, and a manifest of 4 bytes at
-// its start.
+/// What the first slot says from its sequence on: sequence 1, bank 0, and a manifest of 4 bytes at
+/// its start.
 const FIRST_SLOT: [u8; 13] = [0, 0, 0, 1, 0, 0, 0, 0, 0, 0, 0, 0, 4];
 
 /// Makes a disk hold this target with bank 0, sequence 1 and no loads, whatever it held before.
@@ -53,7 +53,7 @@ pub fn format<K: Disk>(disk: &mut K, identity: &Identity) -> Result<(), StoreFau
     Ok(())
 }
 
-// Which slots of a disk are open.
+/// Which slots of a disk are open.
 #[derive(Clone, Copy)]
 enum OpenSlots {
     Neither,
@@ -61,8 +61,8 @@ enum OpenSlots {
     Both { active: Slot },
 }
 
-// Shuts the gates that are open. A gate that reads as shut isn't written, since a torn write could
-// open it.
+/// Shuts the gates that are open. A gate that reads as shut isn't written, since a torn write could
+/// open it.
 fn shut_gates<K: Disk>(disk: &mut K) -> Result<(), StoreFault>
     requires { IsRunning (K.state disk.old) }
     ensures shuts { ShutsGates (K.state disk.old) (K.state disk.new) result }
@@ -89,7 +89,7 @@ fn open_slots<K: Disk>(disk: &mut K) -> Result<OpenSlots, DiskFault>
     Ok(open_of(&a, &b))
 }
 
-// Which slots are open where slot A and slot B say this.
+/// Which slots are open where slot A and slot B say this.
 fn open_of(a: &SlotFields, b: &SlotFields) -> OpenSlots
     ensures { (image : Image) → IsSlotAt image slot_a a.now → IsSlotAt image slot_b b.now
         → AreOpen image result }
@@ -116,7 +116,7 @@ fn slot_on<K: Disk>(disk: &mut K, slot: Slot) -> Result<SlotFields, DiskFault>
     Ok(SlotFields::decode(&bytes))
 }
 
-// No gate is written; but what was written before and may still come out otherwise is settled.
+/// No gate is written; but what was written before and may still come out otherwise is settled.
 fn settle<K: Disk>(disk: &mut K) -> Result<(), StoreFault>
     requires running { IsRunning (K.state disk.old) }
     requires gates { ForSome (K.state disk.old).reads (λ image. IsShut image) }
@@ -139,8 +139,8 @@ fn shut_one<K: Disk>(disk: &mut K, slot: Slot) -> Result<(), StoreFault>
     write_gate(disk, slot, SHUT)
 }
 
-// Were the active slot's gate shut first, the other slot would be active after a power loss in
-// between: a former configuration, or one that was never finished.
+/// Were the active slot's gate shut first, the other slot would be active after a power loss in
+/// between: a former configuration, or one that was never finished.
 fn shut_both<K: Disk>(disk: &mut K, active: Slot) -> Result<(), StoreFault>
     requires running { IsRunning (K.state disk.old) }
     requires gates { ForSome (K.state disk.old).reads
@@ -153,7 +153,7 @@ fn shut_both<K: Disk>(disk: &mut K, active: Slot) -> Result<(), StoreFault>
     write_gate(disk, active, SHUT)
 }
 
-// Writes the gate of a slot, for good.
+/// Writes the gate of a slot, for good.
 fn write_gate<K: Disk>(disk: &mut K, slot: Slot, byte: u8) -> Result<(), StoreFault>
     requires { IsRunning (K.state disk.old) }
     ensures reads { OnOk result (ForSome (K.state disk.old).reads
@@ -170,7 +170,7 @@ fn write_gate<K: Disk>(disk: &mut K, slot: Slot, byte: u8) -> Result<(), StoreFa
     Ok(())
 }
 
-// Writes the manifest, slot A's body and the identity.
+/// Writes the manifest, slot A's body and the identity.
 fn lay_out<K: Disk>(disk: &mut K, identity: &Identity) -> Result<(), StoreFault>
     requires running { IsRunning (K.state disk.old) }
     requires bank_size { IsBankSize identity.now.bank }
@@ -184,6 +184,7 @@ fn lay_out<K: Disk>(disk: &mut K, identity: &Identity) -> Result<(), StoreFault>
     ensures refused { IfErr result (λ fault. IsFailure fault) }
     ensures writes_disk { WritesDisk (K.state disk.old) (K.state disk.new) result }
 {
+    // For the proof: does nothing.
     an_identity_is_read_again();
     let prefix = identity.encode();
     disk.write(BANKS, &NO_LOADS)?;

@@ -16,15 +16,16 @@ use disk_layout::offsets::LAYOUT_MARK;
 use disk_model::{Disk, DiskFault, SIZE};
 use load_base::Bytes;
 
-/// How many bytes stand before what a manifest of layout 2 says of its loads: its mark, and how many
-/// loads there are.
+/// How many bytes stand before what a manifest of layout 2 says of its loads: its mark, and how
+/// many loads there are.
 const HEAD: usize = 4;
 
 /// How many bytes are read at once, at most.
 const PIECE: usize = 512;
 
-/// Reads what the manifest at this offset, of this many bytes, says of its loads, where it says their
-/// type ids; of one of layout 1 nothing. It takes no memory. Where a read is refused nothing is kept.
+/// Reads what the manifest at this offset, of this many bytes, says of its loads, where it says
+/// their type ids; of one of layout 1 nothing. It takes no memory. Where a read is refused nothing
+/// is kept.
 pub(crate) fn read_entries<K: Disk>(
     disk: &mut K,
     at: u32,
@@ -56,7 +57,7 @@ pub(crate) fn read_entries<K: Disk>(
     read_all(disk, at + HEAD as u32, length - HEAD as u32, known)
 }
 
-// Whether a manifest that begins with these bytes has layout 2.
+/// Whether a manifest that begins with these bytes has layout 2.
 fn is_layout_2(head: &[u8; HEAD]) -> bool
     ensures { IsTrue result ↔ (take 2 head.now ≡ number_bytes 2 layout_mark) }
 {
@@ -64,7 +65,7 @@ fn is_layout_2(head: &[u8; HEAD]) -> bool
     head[0] == high && head[1] == low
 }
 
-// Reads this many bytes from an offset on, piece by piece. Where a read is refused none is kept.
+/// Reads this many bytes from an offset on, piece by piece. Where a read is refused none is kept.
 fn read_all<K: Disk>(disk: &mut K, at: u32, count: u32, bytes: &mut Bytes) -> Result<(), DiskFault>
     requires empty { bytes.old.items ≡ [] }
     requires capacity { HasCapacity bytes.old }
@@ -90,6 +91,7 @@ fn read_all<K: Disk>(disk: &mut K, at: u32, count: u32, bytes: &mut Bytes) -> Re
         }
         match bytes.extend(piece) {
             Ok(()) => {}
+            // Room for the longest manifest was reserved.
             Err(_) => unreachable!(),
         }
         done += length;

@@ -20,8 +20,8 @@ use disk_model::Disk;
 /// A store in which no installation has begun fits a disk that runs and holds a configuration as
 /// the store keeps it, and works on it where a power loss may take nothing but work of an
 /// installation. Where a store works beside a configuration, each image that a power loss may leave
-/// now holds it; and calls that add only what holds it, or what holds it or another, leave only that
-/// since their start.
+/// now holds it; and calls that add only what holds it, or what holds it or another, leave only
+/// that since their start.
 pub fn an_idle_store_works<K: Disk>()
     ensures fits { (store : Store) (disk : K) → IsIdle store → IsRunning (K.state disk)
         → ForSome (K.state disk).reads (λ image. (s : StandingView) × HoldsFor store image s)
@@ -45,9 +45,9 @@ pub fn an_idle_store_works<K: Disk>()
 }
 
 /// A power loss may take nothing but work of an installation: of a disk that holds a configuration
-/// and is settled, as after a sync or a restart; of one on which a store works, at whatever stage its
-/// installation is; and still where the disk reads the same and a power loss can leave nothing new.
-/// Then all that it may leave holds the configuration that is read.
+/// and is settled, as after a sync or a restart; of one on which a store works, at whatever stage
+/// its installation is; and still where the disk reads the same and a power loss can leave nothing
+/// new. Then all that it may leave holds the configuration that is read.
 pub fn a_power_loss_takes_only_work<K: Disk>()
     ensures settled { (disk : K) (image : Image) (s : StandingView)
         → (K.state disk).reads ≡ Some image → HoldsConfig image s → IsSettled (K.state disk)

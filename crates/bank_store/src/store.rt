@@ -62,7 +62,8 @@ impl Store {
     ghost use Rattle.bank_store.specs.Store.{AwaitsEnd, PassesBank, spare_of, load_announced};
     ghost use Rattle.bank_store.specs.Store.{file_ended, manifest_length, slot_body};
     ghost use Rattle.bank_store.specs.Store.{with_gate_shut, with_manifest, with_slot};
-    ghost use Rattle.bank_store.specs.Store.{IsKept, PassesByKept, active_at, body_of, known_of};
+    ghost use Rattle.bank_store.specs.Store.{IsKeptLoad, PassesByKept, active_at, body_of};
+    ghost use Rattle.bank_store.specs.Store.{known_of};
     ghost use Rattle.bank_store.specs.Store.{knows_entry, load_kept, nothing_filled, work_at};
     ghost use Rattle.bank_store.specs.Given.{Given, HasGiven, with_load, with_file, configured};
     ghost use Rattle.bank_store.specs.Fits.{HoldsFor, CanActivate};
@@ -151,7 +152,7 @@ impl Store {
         Ok(())
     }
 
-    // Shuts the other slot where it is open.
+    /// Shuts the other slot where it is open.
     fn shut_other<K: Disk>(&self, disk: &mut K) -> Result<(), DiskFault>
         requires running { IsRunning (K.state disk.old) }
         ensures goes_on { TimeGoesOn (K.state disk.old) (K.state disk.new) }
@@ -188,6 +189,7 @@ impl Store {
         ensures continues { Continues self.old self.new }
     {
         let Stage::Filling(progress) = self.stage else {
+            // The premise says that it is being filled.
             unreachable!()
         };
         self.body.extend(part.as_slice())?;
@@ -225,6 +227,7 @@ impl Store {
         ensures keeps { Keeps self.old self.new (K.state disk.old) (K.state disk.new) result }
     {
         let Stage::Filling(progress) = self.stage else {
+            // The premise says that it is being filled.
             unreachable!()
         };
         let need = u64::from(progress.end) + bytes.len() as u64;
@@ -262,6 +265,7 @@ impl Store {
         ensures continues { Continues self.old self.new }
     {
         let Stage::Filling(progress) = self.stage else {
+            // The premise says that it is being filled.
             unreachable!()
         };
         let name = name.as_slice();
@@ -276,13 +280,13 @@ impl Store {
         Ok(())
     }
 
-    /// Copies a load of the active configuration, counted from 1, after the contents: its files from
-    /// bank to bank, and what the manifest says of it. It takes no memory.
+    /// Copies a load of the active configuration, counted from 1, after the contents: its files
+    /// from bank to bank, and what the manifest says of it. It takes no memory.
     ///
     /// BankFull where the contents would pass the bank; then nothing was written.
     pub fn keep<K: Disk>(&mut self, disk: &mut K, load: u16) -> Result<(), StoreFault>
         requires filling { AwaitsLoad self.old }
-        requires known { IsKept self.old load }
+        requires known { IsKeptLoad self.old load }
         requires running { IsRunning (K.state disk.old) }
         // With Ok.
         ensures keeps_load { OnOk result (KeepsLoad self.old self.new (K.state disk.old)
@@ -300,6 +304,7 @@ impl Store {
         ensures keeps { Keeps self.old self.new (K.state disk.old) (K.state disk.new) result }
     {
         let Stage::Filling(progress) = self.stage else {
+            // The premise says that it is being filled.
             unreachable!()
         };
         let place = find_load(self.known.as_slice(), load - 1);
@@ -317,8 +322,8 @@ impl Store {
         Ok(())
     }
 
-    // A load of the active configuration, at this place, was copied after the contents: the manifest
-    // says of it what the active one says.
+    /// A load of the active configuration, at this place, was copied after the contents: the
+    /// manifest says of it what the active one says.
     fn add_entry(&mut self, place: LoadPlace, progress: Filling, count: u32)
         requires filling { IsFilling self.old progress }
         requires between { (progress.loads < most_loads) × (progress.missing ≡ 0) }
@@ -333,6 +338,7 @@ impl Store {
         let entry = &self.known.as_slice()[place.entry..][..place.entry_length];
         match self.body.extend(entry) {
             Ok(()) => {}
+            // The body has room for every load that a manifest may have.
             Err(_) => unreachable!(),
         }
         let end = progress.end + count;
@@ -344,7 +350,7 @@ impl Store {
         });
     }
 
-    // Copies bytes of the active bank into the other one, piece by piece.
+    /// Copies bytes of the active bank into the other one, piece by piece.
     fn copy<K: Disk>(&self, disk: &mut K, from: u32, to: u32, count: u32) -> Result<(), DiskFault>
         requires source { (active_at self.now ≤ from)
             × (from + count ≤ active_at self.now + bank_size_of self.now) }
@@ -355,7 +361,8 @@ impl Store {
         ensures cause { HasCause (K.state disk.old) (K.state disk.new) result }
         ensures near { KeepsNear self.now (K.state disk.old) (K.state disk.new) }
         ensures written { OnOk result (ForSome (K.state disk.old).reads
-            (λ image. (K.state disk.new).reads ≡ Some (overlay image to (range image from count)))) }
+            (λ image. (K.state disk.new).reads ≡ Some (overlay image to
+            (range image from count)))) }
     {
         let mut piece = [0; PIECE];
         let mut done = 0;
@@ -368,7 +375,7 @@ impl Store {
         Ok(())
     }
 
-    // Copies as many bytes as the piece takes.
+    /// Copies as many bytes as the piece takes.
     fn copy_piece<K: Disk>(
         &self,
         disk: &mut K,
@@ -414,6 +421,7 @@ impl Store {
         ensures keeps { Keeps self.old self.new (K.state disk.old) (K.state disk.new) result }
     {
         let Stage::Filling(progress) = self.stage else {
+            // The premise says that it is being filled.
             unreachable!()
         };
         let length = self.body.len() + 4;
@@ -435,10 +443,10 @@ impl Store {
         Ok(())
     }
 
-    /// Names a manifest again that stands in the other bank, at this place and of this many bytes, in
-    /// the place of all that [`Store::start_load`] to [`Store::seal`] do: writes all of the other slot
-    /// but its gate, and syncs. What the manifest says of its loads is read, so that they can be kept
-    /// later. It takes no memory.
+    /// Names a manifest again that stands in the other bank, at this place and of this many bytes,
+    /// in the place of all that [`Store::start_load`] to [`Store::seal`] do: writes all of the
+    /// other slot but its gate, and syncs. What the manifest says of its loads is read, so that
+    /// they can be kept later. It takes no memory.
     pub fn readopt<K: Disk>(
         &mut self,
         disk: &mut K,
@@ -474,8 +482,8 @@ impl Store {
         Ok(())
     }
 
-    // Writes the manifest after the contents, in layout 2: its mark, how many loads there are, and
-    // what the body says of each.
+    /// Writes the manifest after the contents, in layout 2: its mark, how many loads there are, and
+    /// what the body says of each.
     fn write_manifest<K: Disk>(&self, disk: &mut K, progress: Filling) -> Result<(), DiskFault>
         requires filling { IsFilling self.now progress }
         requires within { progress.end + manifest_length self.now ≤ bank_size_of self.now }
@@ -491,8 +499,8 @@ impl Store {
         disk.write(at + 4, self.body.as_slice())
     }
 
-    // Writes the body of the other slot, all but its gate: that its bank is active with the next
-    // sequence number, and where in it the manifest begins and how many bytes it has.
+    /// Writes the body of the other slot, all but its gate: that its bank is active with the next
+    /// sequence number, and where in it the manifest begins and how many bytes it has.
     fn write_slot<K: Disk>(&self, disk: &mut K, offset: u32, length: u32) -> Result<(), DiskFault>
         requires shut { is_other_open self.now ≡ false }
         requires goes_on { active_sequence self.now < 4294967295 }
@@ -507,8 +515,8 @@ impl Store {
         disk.write(at, &self.slot_bytes(offset, length))
     }
 
-    // The body of the other slot: the next sequence number, the other bank, and the manifest's
-    // range in it.
+    /// The body of the other slot: the next sequence number, the other bank, and the manifest's
+    /// range in it.
     fn slot_bytes(&self, offset: u32, length: u32) -> [u8; 13]
         requires { active_sequence self.now < 4294967295 }
         ensures { result ≡ slot_body self.now offset length }
@@ -546,6 +554,7 @@ impl Store {
         ensures writes_disk { WritesDisk (K.state disk.old) (K.state disk.new) result }
     {
         let Stage::Sealed(manifest) = self.stage else {
+            // The premise says that it is sealed.
             unreachable!()
         };
         let slot = self.other();
@@ -579,7 +588,7 @@ impl Store {
         }
     }
 
-    // No installation is begun.
+    /// No installation is begun.
     fn forget(&mut self)
         ensures idle { IsIdle self.new }
         ensures active { SameActive self.old self.new }
@@ -605,14 +614,14 @@ impl Store {
         self.active.bank.number()
     }
 
-    // The offset of the other slot.
+    /// The offset of the other slot.
     fn other(&self) -> u32
         ensures { result ≡ other_slot (active_slot self.now) }
     {
         self.active.slot.other().offset()
     }
 
-    // The offset of the active bank.
+    /// The offset of the active bank.
     fn bank_at(&self) -> u32
         ensures offset { result ≡ active_at self.now }
         ensures within { result + bank_size_of self.now ≤ 134225920 }
@@ -620,7 +629,7 @@ impl Store {
         self.active.bank.offset(self.size)
     }
 
-    // The offset of the other bank.
+    /// The offset of the other bank.
     fn work(&self) -> u32
         ensures offset { result ≡ work_at self.now }
         ensures within { result + bank_size_of self.now ≤ 134225920 }

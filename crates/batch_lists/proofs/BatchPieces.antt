@@ -5,18 +5,18 @@ use Rattle.std.proofs.lemmas.Bool.{leb-true, le-leb, and_from}
 use Rattle.std.proofs.lemmas.List.{append-nil}
 use Rattle.load_base.specs.Ident.{IsIdent, IsIdentFault}
 use Rattle.load_base.specs.Verdicts.{ident_fault_of}
-use Rattle.load_base.specs.VerdictLaws.{ident_faults}
+use Rattle.load_base.proofs.VerdictLemmas.{ident_faults}
 use Rattle.part_number.specs.PartNumber.{IsPartNumberText}
 use Rattle.field_grammar.specs.Grammar.{expected}
 use Rattle.field_grammar.specs.Spelling.{IsSpelledBy}
 use Rattle.field_grammar.specs.Fields.{number, number_fields, padded_fields}
-use Rattle.field_grammar.specs.CombinedLaws.{spelled-renamed, spelled-expected, spelled-counted_all}
-use Rattle.field_grammar.specs.JudgedLaws.{spelled-right_padded}
-use Rattle.field_grammar.specs.NumberLaws.{wide2, spelled-number}
+use Rattle.field_grammar.proofs.CombinedLemmas.{spelled-renamed, spelled-expected, spelled-counted_all}
+use Rattle.field_grammar.proofs.JudgedLemmas.{spelled-right_padded}
+use Rattle.field_grammar.proofs.NumberLemmas.{wide2, spelled-number}
 use Rattle.header_sections.specs.Sections.{part}
 use Rattle.header_sections.specs.SectionFields.{texts_fields}
-use Rattle.header_sections.specs.SectionLaws as sections
-use Rattle.media_lists.specs.PieceLaws.{both}
+use Rattle.header_sections.proofs.SectionLemmas as sections
+use Rattle.media_lists.proofs.PieceLemmas.{both}
 use Rattle.batch_lists.specs.BatchFaults.{named, refused}
 use Rattle.batch_lists.specs.Batch.{u16, shared, ident, counted, batch_parts, batch_target, batch_targets, contents, one_part, BatchTargetView, BatchView}
 use Rattle.batch_lists.specs.BatchFields.{batch_target_fields, batch_targets_fields, contents_fields, IsCount, IsBatchTarget, AreContents}

@@ -6,13 +6,13 @@ use Rattle.std.proofs.lemmas.List.{get_or-map, length-map}
 use Rattle.std.proofs.lemmas.List.Elements.{All-map}
 use Rattle.crc_fields.specs.CheckSums.{crc16_of}
 use Rattle.part_number.specs.PartNumber.{IsPartNumberText}
-use Rattle.part_number.specs.VerdictLaws.{part_size}
+use Rattle.part_number.proofs.VerdictLemmas.{part_size}
 use Rattle.field_grammar.specs.Spelling.{spelled_length}
 use Rattle.field_grammar.specs.Fields.{number_fields, padded_fields}
-use Rattle.field_grammar.specs.SectionLaws.{size_more, size_number, size_padded}
-use Rattle.field_grammar.specs.WrittenLaws.{at_most_each}
+use Rattle.field_grammar.proofs.SectionLemmas.{size_more, size_number, size_padded}
+use Rattle.field_grammar.proofs.WrittenLemmas.{at_most_each}
 use Rattle.header_sections.specs.SectionFields.{texts_fields}
-use Rattle.header_sections.specs.SizeLaws.{even_all, even_padded, even_texts, size_texts}
+use Rattle.header_sections.proofs.SizeLemmas.{even_all, even_padded, even_texts, size_texts}
 use Rattle.batch_lists.specs.Batch.{BatchTargetView, BatchView, batch_target_view, batch_view}
 use Rattle.batch_lists.specs.BatchFields.{batch_target_fields, batch_targets_fields, contents_fields, start_fields, batch_size, covered_fields, batch_fields, IsCount, IsBatchTarget, AreContents, IsBatch}
 use Rattle.batch_lists.specs.declared.batch.Batch.{Batch}

@@ -5,15 +5,15 @@ use Rattle.std.proofs.lemmas.Bool.{leb-true, le-leb}
 use Rattle.std.proofs.lemmas.List.{append-nil}
 use Rattle.std.proofs.lemmas.List.Folds.{concat-append}
 use Rattle.crc_fields.specs.CheckSums.{crc16_of}
-use Rattle.crc_fields.specs.WidthLaws.{crc16_fits}
+use Rattle.crc_fields.proofs.WidthLemmas.{crc16_fits}
 use Rattle.field_grammar.specs.Grammar.{Follows, EndsTheBytes}
-use Rattle.field_grammar.specs.ExactLaws.{ends_renamed, ends_last, ends_before}
+use Rattle.field_grammar.proofs.ExactLemmas.{ends_renamed, ends_last, ends_before}
 use Rattle.field_grammar.specs.Spelling.{IsPlacedBy, SpellsWhole, spelled_length}
 use Rattle.field_grammar.specs.Fields.{number_fields}
-use Rattle.field_grammar.specs.PlacedLaws.{placed-renamed}
-use Rattle.field_grammar.specs.SectionLaws.{size_more, size_number}
+use Rattle.field_grammar.proofs.PlacedLemmas.{placed-renamed}
+use Rattle.field_grammar.proofs.SectionLemmas.{size_more, size_number}
 use Rattle.header_sections.specs.Sections.{start, end}
-use Rattle.header_sections.specs.SectionLaws.{placed-start, placed-end, ends-end}
+use Rattle.header_sections.proofs.SectionLemmas.{placed-start, placed-end, ends-end}
 use Rattle.batch_lists.specs.BatchFaults.{refused}
 use Rattle.batch_lists.specs.Batch.{shared, check_sum, limit, batch, BatchView}
 use Rattle.batch_lists.specs.BatchFields.{contents_fields, start_fields, batch_size, covered_fields, batch_fields, IsBatch}

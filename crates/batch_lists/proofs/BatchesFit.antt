@@ -3,8 +3,8 @@ use Rattle.std.proofs.Common.{List, [], ◌∷◌, arith}
 use Rattle.std.specs.Prelude.{ℕ, ⊤}
 use Rattle.std.specs.List.{All, AllByRecursion}
 use Rattle.std.proofs.lemmas.List.Elements.{All-nil, All-cons}
-use Rattle.field_grammar.specs.SectionLaws.{size_padded}
-use Rattle.part_number.specs.VerdictLaws.{part_size}
+use Rattle.field_grammar.proofs.SectionLemmas.{size_padded}
+use Rattle.part_number.proofs.VerdictLemmas.{part_size}
 use Rattle.header_sections.specs.SectionFields.{HaveDistances}
 use Rattle.batch_lists.specs.Batches.{batch_body_fields, IsListedBatch}
 use Rattle.batch_lists.specs.declared.batches.BatchEntry.{BatchEntry}

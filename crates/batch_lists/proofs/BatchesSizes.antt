@@ -1,7 +1,7 @@
 -- How many bytes the entries of a list of batches take.
 use Rattle.std.proofs.Common.{◌≡◌, ◌+◌, ◌%◌, ◌++◌, arith}
 use Rattle.field_grammar.specs.Spelling.{spelled_length}
-use Rattle.field_grammar.specs.SectionLaws.{size_more, size_number, size_padded}
+use Rattle.field_grammar.proofs.SectionLemmas.{size_more, size_number, size_padded}
 use Rattle.field_grammar.specs.Fields.{number_fields, padded_fields}
 use Rattle.header_sections.specs.SectionFields.{entry_size}
 use Rattle.batch_lists.specs.Batches.{batch_body_fields}

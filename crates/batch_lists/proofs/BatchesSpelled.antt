@@ -2,13 +2,13 @@
 use Rattle.std.proofs.Common.{◌≡◌, ℕ, ◌+◌, [], ◌++◌, length, refl, subst, arith}
 use Rattle.std.specs.List.{concat}
 use Rattle.field_grammar.specs.Grammar.{EndsTheBytes}
-use Rattle.field_grammar.specs.ExactLaws.{ends_renamed}
+use Rattle.field_grammar.proofs.ExactLemmas.{ends_renamed}
 use Rattle.field_grammar.specs.Spelling.{IsSpelledBy, SpellsWhole}
 use Rattle.field_grammar.specs.Fields.{number_fields, padded_fields}
 use Rattle.media_lists.specs.Lists.{media_list}
 use Rattle.media_lists.specs.ListFields.{list_fields}
-use Rattle.media_lists.specs.PieceLaws.{spelled-member_of, spelled-name, spelled-part}
-use Rattle.media_lists.specs.SpelledLaws.{HasEntries, spells-list, ends-media_list}
+use Rattle.media_lists.proofs.PieceLemmas.{spelled-member_of, spelled-name, spelled-part}
+use Rattle.media_lists.proofs.SpelledLemmas.{HasEntries, spells-list, ends-media_list}
 use Rattle.batch_lists.specs.BatchFaults.{batches_fault}
 use Rattle.batch_lists.specs.Batches.{batch_body, batch_file, batch_entries, batches_list, batch_body_fields, IsListedBatch, IsBatchesList}
 use Rattle.batch_lists.specs.declared.batches.BatchEntry.{BatchEntry}

@@ -1,7 +1,7 @@
 //! A batch.
 ghost use Rattle.std.specs.Prelude.{◌≡◌, ◌⊎◌, ◌↔◌, IsTrue, IfOk, IfErr};
 ghost use Rattle.field_grammar.specs.Grammar.{Fault};
-ghost use Rattle.field_grammar.specs.Answers.{Gives};
+ghost use Rattle.field_grammar.specs.Answers.{AnswersAs};
 ghost use Rattle.batch_lists.specs.Batch.{batch, batch_view, BatchView};
 ghost use Rattle.batch_lists.specs.BatchFields.{IsBatch, BatchSpells};
 ghost use Rattle.batch_lists.specs.declared.fault.BatchFault.{BatchFault};
@@ -47,12 +47,12 @@ impl Batch {
         ensures found { IfOk result (λ b. BatchSpells (batch_view b) bytes.now) }
         // What is spelled so is read, unless it is out of memory.
         ensures only { (v : BatchView) → BatchSpells v bytes.now
-            → Gives Memory batch_view result (Ok v) }
+            → AnswersAs Memory batch_view result (Ok v) }
         // A refusal is the first fault,
         ensures refused { IfErr result (λ fault. (fault ≡ Memory) ⊎ Fault batch bytes.now fault) }
         // and where there is a fault, it is refused so.
         ensures faulty { (fault : BatchFault) → Fault batch bytes.now fault
-            → Gives Memory batch_view result (Err fault) }
+            → AnswersAs Memory batch_view result (Err fault) }
     {
         batch_of(alloc, bytes)
     }

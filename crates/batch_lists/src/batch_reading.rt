@@ -1,7 +1,7 @@
 //! The decoder of a batch, part by part of its format.
 ghost use Rattle.std.specs.Prelude.{◌≡◌, map};
 ghost use Rattle.field_grammar.specs.Grammar.{times};
-ghost use Rattle.field_grammar.specs.Answers.{answer, Decodes, Gives};
+ghost use Rattle.field_grammar.specs.Answers.{answer, Decodes, AnswersAs};
 ghost use Rattle.batch_lists.specs.Batch.{batch, batch_view, batch_target_view, one_part, ident};
 ghost use Rattle.batch_lists.specs.Batch.{ident_verdict, counted, is_count as is_such_count};
 ghost use Rattle.batch_lists.specs.Batch.{batch_parts, batch_target, batch_targets, contents};
@@ -21,15 +21,15 @@ use std::alloc::Global;
 const LONGEST_BATCH: usize = 131_072;
 
 /// The most targets of a batch.
-pub(crate) const MOST_TARGETS: u16 = 64;
+pub const MOST_TARGETS: u16 = 64;
 
 /// The most parts of a target.
-pub(crate) const MOST_PARTS: u16 = 32;
+pub const MOST_PARTS_OF_A_TARGET: u16 = 32;
 
 /// The batch that the bytes spell, or their first fault.
 #[tactic(auto, unfolding(crate::specs::Batch::batch))]
 pub(crate) fn batch_of(alloc: Global, bytes: &[u8]) -> Result<Batch, BatchFault>
-    ensures { Gives Memory batch_view result (answer batch bytes.now) }
+    ensures { AnswersAs Memory batch_view result (answer batch bytes.now) }
 {
     let mut reader = Reader::new(bytes);
     test_limit(&mut reader)?;
@@ -81,7 +81,7 @@ fn is_count(most: u16, count: u16) -> bool
     1 <= count && count <= most
 }
 
-// A count of 1 to `most`.
+/// A count of 1 to `most`.
 #[tactic(auto, unfolding(crate::specs::Batch::counted))]
 fn read_count(reader: &mut Reader, most: u16) -> Result<u16, BatchFault>
     ensures { Decodes Memory (λ n. n) (counted most) reader.old result reader.new }
@@ -95,7 +95,7 @@ fn read_count(reader: &mut Reader, most: u16) -> Result<u16, BatchFault>
     }
 }
 
-// A padded Ident. Its bytes are tested before its pad is read.
+/// A padded Ident. Its bytes are tested before its pad is read.
 #[tactic(auto, unfolding(crate::specs::Batch::ident))]
 fn read_ident(reader: &mut Reader) -> Result<Ident, BatchFault>
     ensures { Decodes Memory (λ t. t) ident reader.old result reader.new }
@@ -108,10 +108,10 @@ fn read_ident(reader: &mut Reader) -> Result<Ident, BatchFault>
     Ok(ident)
 }
 
-// The Ident that these bytes are, or the fault of the Ident whose bytes stand at this offset.
-#[tactic(auto, using(load_base::specs::VerdictLaws::read_judged, load_base::specs::VerdictLaws::refused_judged))]
+/// The Ident that these bytes are, or the fault of the Ident whose bytes stand at this offset.
+#[tactic(auto, using(load_base::proofs::VerdictLemmas::read_judged, load_base::proofs::VerdictLemmas::refused_judged))]
 fn ident_of(bytes: &[u8], offset: u64) -> Result<Ident, BatchFault>
-    ensures { Gives Memory (λ t. t) result (ident_verdict offset bytes.now) }
+    ensures { AnswersAs Memory (λ t. t) result (ident_verdict offset bytes.now) }
 {
     match Ident::read(bytes) {
         Ok(ident) => Ok(ident),
@@ -134,7 +134,7 @@ fn read_targets(alloc: Global, reader: &mut Reader) -> Result<List<BatchTarget>,
     Ok(targets)
 }
 
-#[tactic(auto, using(field_grammar::specs::LoopLaws::goes_on_seen, field_grammar::specs::LoopLaws::ends, field_grammar::specs::LoopLaws::is_done, field_grammar::specs::LoopLaws::begins))]
+#[tactic(auto, using(field_grammar::proofs::LoopLemmas::goes_on_seen, field_grammar::proofs::LoopLemmas::ends, field_grammar::proofs::LoopLemmas::is_done, field_grammar::proofs::LoopLemmas::begins))]
 fn read_so_many_targets(
     alloc: Global,
     reader: &mut Reader,
@@ -164,12 +164,12 @@ fn read_target(alloc: Global, reader: &mut Reader) -> Result<BatchTarget, BatchF
 fn read_parts(alloc: Global, reader: &mut Reader) -> Result<List<PartNumber>, BatchFault>
     ensures { Decodes Memory (λ l. l.items) batch_parts reader.old result reader.new }
 {
-    let count = read_count(reader, MOST_PARTS)?;
+    let count = read_count(reader, MOST_PARTS_OF_A_TARGET)?;
     let parts = read_so_many_parts(alloc, reader, count)?;
     Ok(parts)
 }
 
-#[tactic(auto, using(field_grammar::specs::LoopLaws::goes_on, field_grammar::specs::LoopLaws::ends, field_grammar::specs::LoopLaws::is_done, field_grammar::specs::LoopLaws::begins))]
+#[tactic(auto, using(field_grammar::proofs::LoopLemmas::goes_on, field_grammar::proofs::LoopLemmas::ends, field_grammar::proofs::LoopLemmas::is_done, field_grammar::proofs::LoopLemmas::begins))]
 fn read_so_many_parts(
     alloc: Global,
     reader: &mut Reader,

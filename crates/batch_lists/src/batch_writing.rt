@@ -1,8 +1,7 @@
 //! The encoder of a batch, part by part of its fields.
-ghost use Rattle.std.specs.Prelude.{◌≡◌, ◌++◌, ◌+◌, ◌≤◌, [], length, map, IfOk, OnOk};
+ghost use Rattle.std.specs.Prelude.{◌≡◌, ◌++◌, ◌+◌, ◌≤◌, length, map, IfOk, OnOk};
 ghost use Rattle.std.specs.List.{concat, flat_map, All};
-ghost use Rattle.crc_fields.specs.CheckSums.{crc16_of};
-ghost use Rattle.field_grammar.specs.Fields.{number_bytes, padded_fields};
+ghost use Rattle.field_grammar.specs.Fields.{padded_fields};
 ghost use Rattle.header_sections.specs.SectionFields.{texts_fields};
 ghost use Rattle.batch_lists.specs.Batch.{batch_view, batch_target_view};
 ghost use Rattle.batch_lists.specs.BatchFields.{batch_target_fields, contents_fields};
@@ -26,7 +25,7 @@ pub(crate) fn batch_bytes(alloc: Global, batch: &Batch) -> Result<Bytes, NoMemor
     with_check_sum(alloc, whole)
 }
 
-// The contents after their length in words and the version. The length counts the check sum too.
+/// The contents after their length in words and the version. The length counts the check sum too.
 #[tactic(auto, unfolding(crate::specs::BatchFields::start_fields))]
 fn with_start(alloc: Global, contents: &[u8]) -> Result<Bytes, NoMemory>
     requires { length contents.now ≤ 131072 }
@@ -41,7 +40,7 @@ fn with_start(alloc: Global, contents: &[u8]) -> Result<Bytes, NoMemory>
     Ok(out.finish())
 }
 
-#[tactic(auto, using(part_number::specs::VerdictLaws::part_size), unfolding(crate::specs::BatchFields::contents_fields, crate::specs::BatchFields::batch_targets_fields))]
+#[tactic(auto, using(part_number::proofs::VerdictLemmas::part_size), unfolding(crate::specs::BatchFields::contents_fields, crate::specs::BatchFields::batch_targets_fields))]
 fn put_contents(out: &mut Writer, batch: &Batch) -> Result<(), NoMemory>
     requires { IsBatch (batch_view batch.now) }
     ensures { OnOk result (out.new ≡ out.old ++ concat (contents_fields (batch_view batch.now))) }
@@ -94,7 +93,7 @@ fn put_parts(out: &mut Writer, parts: &[PartNumber]) -> Result<(), NoMemory>
     Ok(())
 }
 
-#[tactic(auto, using(part_number::specs::VerdictLaws::part_size))]
+#[tactic(auto, using(part_number::proofs::VerdictLemmas::part_size))]
 fn put_part(out: &mut Writer, part: &PartNumber) -> Result<(), NoMemory>
     ensures { OnOk result (out.new ≡ out.old ++ concat (padded_fields part.now)) }
 {

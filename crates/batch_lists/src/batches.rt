@@ -1,7 +1,7 @@
 //! The list of a media set's batches.
 ghost use Rattle.std.specs.Prelude.{◌≡◌, ◌⊎◌, ◌↔◌, IsTrue, IfOk, IfErr};
 ghost use Rattle.field_grammar.specs.Grammar.{Fault};
-ghost use Rattle.field_grammar.specs.Answers.{Gives};
+ghost use Rattle.field_grammar.specs.Answers.{AnswersAs};
 ghost use Rattle.batch_lists.specs.Batches.{batches_list, batches_list_view, BatchesListView};
 ghost use Rattle.batch_lists.specs.Batches.{IsBatchesList, BatchesSpells};
 ghost use Rattle.batch_lists.specs.declared.fault.BatchesFault.{BatchesFault};
@@ -49,13 +49,13 @@ impl BatchesList {
         ensures found { IfOk result (λ l. BatchesSpells (batches_list_view l) bytes.now) }
         // What is spelled so is read, unless it is out of memory.
         ensures only { (v : BatchesListView) → BatchesSpells v bytes.now
-            → Gives Memory batches_list_view result (Ok v) }
+            → AnswersAs Memory batches_list_view result (Ok v) }
         // A refusal is the first fault,
         ensures refused { IfErr result (λ fault. (fault ≡ Memory) ⊎ Fault batches_list bytes.now
             fault) }
         // and where there is a fault, it is refused so.
         ensures faulty { (fault : BatchesFault) → Fault batches_list bytes.now fault
-            → Gives Memory batches_list_view result (Err fault) }
+            → AnswersAs Memory batches_list_view result (Err fault) }
     {
         batches_of(alloc, bytes)
     }

@@ -1,7 +1,7 @@
 //! The decoder of a list of batches, part by part of its format.
-ghost use Rattle.std.specs.Prelude.{◌≡◌, ◌≤◌, ◌<◌, ◌++◌, ◌∷◌, [], length, map, IfOk};
+ghost use Rattle.std.specs.Prelude.{◌≤◌, ◌<◌, ◌++◌, ◌∷◌, [], length, map, IfOk};
 ghost use Rattle.field_grammar.specs.Grammar.{listed};
-ghost use Rattle.field_grammar.specs.Answers.{answer, Decodes, Gives};
+ghost use Rattle.field_grammar.specs.Answers.{answer, Decodes, AnswersAs};
 ghost use Rattle.media_lists.specs.NameOrder.{IsOrder};
 ghost use Rattle.media_lists.specs.Lists.{media_list};
 ghost use Rattle.media_lists.specs.Entries.{numbered_entry, entry_after};
@@ -23,7 +23,7 @@ use std::alloc::Global;
 
 /// The list that the bytes spell, or their first fault.
 pub(crate) fn batches_of(alloc: Global, bytes: &[u8]) -> Result<BatchesList, BatchesFault>
-    ensures { Gives Memory batches_list_view result (answer batches_list bytes.now) }
+    ensures { AnswersAs Memory batches_list_view result (answer batches_list bytes.now) }
 {
     let mut reader = Reader::new(bytes);
     let list = read_list(alloc, &mut reader)?;
@@ -65,7 +65,7 @@ fn read_batches(
     Ok(batches)
 }
 
-#[tactic(auto, using(field_grammar::specs::LoopLaws::list_goes_on, field_grammar::specs::LoopLaws::list_ends, field_grammar::specs::LoopLaws::list_is_done))]
+#[tactic(auto, using(field_grammar::proofs::LoopLemmas::list_goes_on, field_grammar::proofs::LoopLemmas::list_ends, field_grammar::proofs::LoopLemmas::list_is_done))]
 fn read_so_many_batches(
     alloc: Global,
     reader: &mut Reader,
@@ -109,7 +109,7 @@ fn read_new_batch(
     }
 }
 
-#[tactic(auto, using(field_grammar::specs::MoveLaws::offset_goes_on), unfolding(media_lists::specs::Entries::numbered_entry))]
+#[tactic(auto, using(field_grammar::proofs::MoveLemmas::offset_goes_on), unfolding(media_lists::specs::Entries::numbered_entry))]
 fn read_batch_entry(
     reader: &mut Reader,
     members: u8,

@@ -1,5 +1,5 @@
 //! When a list of batches meets its limits, and its encoder.
-ghost use Rattle.std.specs.Prelude.{◌≡◌, ◌↔◌, [], IsTrue, IfOk};
+ghost use Rattle.std.specs.Prelude.{◌↔◌, IsTrue, IfOk};
 ghost use Rattle.std.specs.List.{AllByRecursion};
 ghost use Rattle.media_lists.specs.ListFields.{AreEntries};
 ghost use Rattle.batch_lists.specs.Batches.{batches_list_view, batch_file, batch_body_fields};
@@ -39,7 +39,7 @@ impl Entry for BatchEntry {
         part_size(&self.part) + name_size(&self.file) + 2
     }
 
-    #[tactic(auto, using(part_number::specs::VerdictLaws::part_size), unfolding(crate::specs::Batches::batch_body_fields))]
+    #[tactic(auto, using(part_number::proofs::VerdictLemmas::part_size), unfolding(crate::specs::Batches::batch_body_fields))]
     fn put_body(&self, out: &mut Writer) -> Result<(), NoMemory> {
         out.put_padded(self.part.as_slice())?;
         out.put_padded(self.file.as_slice())?;

@@ -101,7 +101,7 @@ impl From<ListFault> for BatchesFault {
     }
 }
 
-// A list of batches has no text and no path, so that their faults never come.
+/// A list of batches has no text and no path, so that their faults never come.
 fn word_of(word: WordFault) -> BatchWordFault
     ensures { result ≡ batches_word word }
 {

@@ -1,5 +1,5 @@
 //! Whether a batch meets the limits of its format.
-ghost use Rattle.std.specs.Prelude.{◌≡◌, ◌↔◌, IsTrue, length};
+ghost use Rattle.std.specs.Prelude.{◌↔◌, IsTrue};
 ghost use Rattle.std.specs.List.{All};
 ghost use Rattle.part_number.specs.PartNumber.{IsPartNumberText};
 ghost use Rattle.batch_lists.specs.Batch.{batch_view, batch_target_view};
@@ -7,7 +7,7 @@ ghost use Rattle.batch_lists.specs.BatchFields.{IsCount as is_such_count, IsBatc
 ghost use Rattle.batch_lists.specs.BatchFields.{IsBatchTarget as is_such_target};
 
 use crate::batch::{Batch, BatchTarget};
-use crate::batch_reading::{MOST_PARTS, MOST_TARGETS};
+use crate::batch_reading::{MOST_PARTS_OF_A_TARGET, MOST_TARGETS};
 use part_number::PartNumber;
 
 fn is_count(most: u16, count: usize) -> bool
@@ -33,7 +33,7 @@ fn is_target(target: &BatchTarget) -> bool
     let _pos = target.pos.as_slice();
     let parts = target.parts.as_slice();
     are_parts(parts);
-    is_count(MOST_PARTS, parts.len())
+    is_count(MOST_PARTS_OF_A_TARGET, parts.len())
 }
 
 fn are_targets(targets: &[BatchTarget]) -> bool

@@ -14,6 +14,7 @@ mod laws;
 mod printing;
 
 pub use batch::{BATCH_VERSION, Batch, BatchTarget};
+pub use batch_reading::{MOST_PARTS_OF_A_TARGET, MOST_TARGETS};
 pub use batches::{BATCHES_VERSION, BatchEntry, BatchesList};
 pub use fault::{BatchFault, BatchWordFault, BatchesFault};
 pub use laws::{batch_laws, batches_list_laws};

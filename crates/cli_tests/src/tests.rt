@@ -11,16 +11,16 @@ use std::alloc::Global;
 use std::fs;
 use std::test::Fail;
 
-// The bytes of a formatted disk; those after them are zero.
+/// The bytes of a formatted disk; those after them are zero.
 const DISK: usize = 4125;
 
-// The identity of target HW1, position L, serial number SN1, with banks of 4096 bytes.
+/// The identity of target HW1, position L, serial number SN1, with banks of 4096 bytes.
 static IDENTITY: &[u8; 22] = b"A615\x00\x01\x00\x00\x10\x00\x03HW1\x01L\x03SN1\xB4\x3C";
 
-// The body of slot A: sequence number 1, bank 0, and a manifest of two bytes at its start.
+/// The body of slot A: sequence number 1, bank 0, and a manifest of two bytes at its start.
 static SLOT: &[u8; 13] = &[0, 0, 0, 1, 0, 0, 0, 0, 0, 0, 0, 0, 2];
 
-// A load header.
+/// A load header.
 static APP_HEADER: [u8; 122] = [
     0x00, 0x00, 0x00, 0x3D, 0x80, 0x04, 0x00, 0x00, 0x00, 0x00, 0x00, 0x14, 0x00, 0x00, 0x00, 0x1D,
     0x00, 0x00, 0x00, 0x21, 0x00, 0x00, 0x00, 0x25, 0x00, 0x00, 0x00, 0x26, 0x00, 0x00, 0x00, 0x37,
@@ -32,7 +32,7 @@ static APP_HEADER: [u8; 122] = [
     0x00, 0x00, 0x00, 0x00, 0x70, 0x42, 0xAD, 0xC0, 0x8C, 0x7F,
 ];
 
-// A recipe of one load with one file.
+/// A recipe of one load with one file.
 static APP: &[u8] = b"set XYZ5A-0000-0001
 members 1
 load ABC41-0000-0001 APP.LUH 1 7 APP
@@ -40,7 +40,7 @@ hardware HW1
 data APP.BIN 1 app.bin APP1
 ";
 
-// The same, of a file that no other test writes.
+/// The same, of a file that no other test writes.
 static OWN_APP: &[u8] = b"set XYZ5A-0000-0001
 members 1
 load ABC41-0000-0001 APP.LUH 1 7 APP
@@ -48,7 +48,7 @@ hardware HW1
 data APP.BIN 1 own.bin APP1
 ";
 
-// Loads two units with either set.
+/// Loads two units with either set.
 static FLEET_SCRIPT: &[u8] = b"at 1 upload HW1 L ABC41-0000-0001
 at 2 upload HW1 R ABC41-0000-0001
 finish
@@ -84,7 +84,7 @@ file APP.LUH 122 248A
 file APP.BIN 9 29B1
 ";
 
-// What is listed of unit 2 then.
+/// What is listed of unit 2 then.
 static SECOND_UNIT: &[u8] = b"0 target HW1 R SN2
 bank 1 sequence 2
 loads 1
@@ -149,7 +149,7 @@ give 21
 end
 ";
 
-// A disk that was formatted for that target.
+/// A disk that was formatted for that target.
 fn formatted() -> [u8; DISK] {
     let mut disk = [0; DISK];
     disk[..22].copy_from_slice(IDENTITY);
@@ -166,7 +166,7 @@ fn words_of(alloc: Global, words: &[&str]) -> Result<Vec<String>, Fail> {
     Ok(all)
 }
 
-// The disks of eight units in files, of which the first two are these.
+/// The disks of eight units in files, of which the first two are these.
 fn units<'r>(
     rt: &'r HostRuntime,
     opened: &'r OpenedFiles,
@@ -187,7 +187,7 @@ fn units<'r>(
     ]
 }
 
-// The status of a run over the system's files, standard output and disks in files.
+/// The status of a run over the system's files, standard output and disks in files.
 fn status_over_the_system(
     rt: &HostRuntime,
     words: &[&str],
@@ -206,9 +206,9 @@ fn status_over_the_system(
     Ok(status)
 }
 
-// A disk that was written by hand, one that is missing and stays so, and a folder in its place; that
-// of a second unit, which is made as it is formatted, while that of a third isn't; a header, one that
-// is missing, and a folder in its place.
+/// A disk that was written by hand, one that is missing and stays so, and a folder in its place;
+/// that of a second unit, which is made as it is formatted, while that of a third isn't; a header,
+/// one that is missing, and a folder in its place.
 #[test]
 fn the_real_host_sink_and_disk(rt: HostRuntime) -> Result<(), Fail> {
     fs::write(&rt, "listed.disk", formatted().as_slice())?;
@@ -250,8 +250,8 @@ fn the_real_host_sink_and_disk(rt: HostRuntime) -> Result<(), Fail> {
     Ok(())
 }
 
-// What a run says over the system's files and a disk that was formatted: its status as a digit, a
-// space, and its output.
+/// What a run says over the system's files and a disk that was formatted: its status as a digit, a
+/// space, and its output.
 fn said_over_the_system(rt: &HostRuntime, words: &[&str], said: &mut Bytes) -> Result<(), Fail> {
     let alloc = rt.alloc();
     fs::write(rt, "formatted.disk", formatted().as_slice())?;
@@ -268,7 +268,7 @@ fn said_over_the_system(rt: &HostRuntime, words: &[&str], said: &mut Bytes) -> R
     Ok(())
 }
 
-// The names that a run asks for are those of the system's files.
+/// The names that a run asks for are those of the system's files.
 #[test]
 fn sets_over_the_real_host(rt: HostRuntime) -> Result<(), Fail> {
     fs::write(&rt, "R", APP)?;
@@ -298,8 +298,8 @@ fn sets_over_the_real_host(rt: HostRuntime) -> Result<(), Fail> {
     Ok(())
 }
 
-// Two units whose disks are one file by a link: a command that uses both meets a disk fault and
-// doesn't wait, and one that uses the second alone has its file.
+/// Two units whose disks are one file by a link: a command that uses both meets a disk fault and
+/// doesn't wait, and one that uses the second alone has its file.
 #[test]
 fn units_have_no_file_in_common(rt: HostRuntime) -> Result<(), Fail> {
     fs::write(&rt, "OWN", OWN_APP)?;
@@ -324,7 +324,7 @@ fn units_have_no_file_in_common(rt: HostRuntime) -> Result<(), Fail> {
     Ok(())
 }
 
-// A flash in memory, on which a disk that was formatted stands.
+/// A flash in memory, on which a disk that was formatted stands.
 #[derive(Drop)]
 struct Ram {
     bytes: [u8; DISK],
@@ -355,7 +355,7 @@ fn flash() -> Fused<FlashDisk<Ram>>
     Fused::new(FlashDisk::new(Ram { bytes: formatted() }))
 }
 
-// What `list` says over flashes of one's own.
+/// What `list` says over flashes of one's own.
 fn said_over_a_flash(rt: &HostRuntime, said: &mut Bytes) -> Result<(), Fail> {
     let alloc = rt.alloc();
     let words = words_of(alloc, &["list"])?;

@@ -50,7 +50,7 @@ use std::fs;
 use std::process::ExitCode;
 use std::rt::Files;
 
-// The file that names those with the cases, one a line.
+/// The file that names those with the cases, one a line.
 const INDEX: &str = "INDEX";
 
 const STOPPED: u8 = 1;
@@ -72,7 +72,7 @@ fn main(rt: HostRuntime) -> ExitCode {
     }
 }
 
-// Reads the cases of all files that the index names.
+/// Reads the cases of all files that the index names.
 fn read_all<R: Files + Print + AllocGlobal>(rt: &R, cases: &mut Vec<Case>) -> Result<(), Stopped> {
     let index = read_file(rt, INDEX)?;
     for name in index.as_str().lines() {
@@ -81,7 +81,7 @@ fn read_all<R: Files + Print + AllocGlobal>(rt: &R, cases: &mut Vec<Case>) -> Re
     Ok(())
 }
 
-// The text of a file.
+/// The text of a file.
 fn read_file<R: Files + Print + AllocGlobal>(rt: &R, name: &str) -> Result<String, Stopped> {
     match fs::read_to_string(rt, name) {
         Ok(text) => Ok(text),
@@ -92,7 +92,7 @@ fn read_file<R: Files + Print + AllocGlobal>(rt: &R, name: &str) -> Result<Strin
     }
 }
 
-// Reads the cases of one file, up to the first line that is refused.
+/// Reads the cases of one file, up to the first line that is refused.
 fn read_cases<R: Files + Print + AllocGlobal>(
     rt: &R,
     name: &str,
@@ -112,7 +112,7 @@ fn read_cases<R: Files + Print + AllocGlobal>(
     Ok(())
 }
 
-// Runs the cases one after the other; one without a run is only what others begin as.
+/// Runs the cases one after the other; one without a run is only what others begin as.
 fn run_all<R: Print + AllocGlobal>(rt: &R, cases: &[Case]) -> Result<(), Stopped> {
     let mut tally = Tally {
         cases: 0,
@@ -131,7 +131,7 @@ fn run_all<R: Print + AllocGlobal>(rt: &R, cases: &[Case]) -> Result<(), Stopped
     }
 }
 
-// Runs a case and prints what is told of it.
+/// Runs a case and prints what is told of it.
 fn print_case<R: Print + AllocGlobal>(
     rt: &R,
     case: &Case,

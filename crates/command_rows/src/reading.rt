@@ -73,7 +73,7 @@ pub(crate) enum Place {
     Disk { unit: usize, at: usize },
 }
 
-// Bytes that are filled in at once.
+/// Bytes that are filled in at once.
 const PIECE: usize = 4096;
 
 /// Takes what one line says.
@@ -114,7 +114,7 @@ pub(crate) fn take_line(
     }
 }
 
-// Takes what a line says of the case that was begun last.
+/// Takes what a line says of the case that was begun last.
 fn take_word(
     alloc: Global,
     case: &mut Case,
@@ -163,7 +163,7 @@ fn take_word(
     Ok(())
 }
 
-// The case that was begun last begins as an earlier one does.
+/// The case that was begun last begins as an earlier one does.
 fn begin_as(alloc: Global, cases: &mut Vec<Case>, name: &str) -> Result<(), Refusal> {
     let Some((case, earlier)) = cases.split_last_mut() else {
         return Err(Refusal::NoCase);
@@ -177,7 +177,7 @@ fn begin_as(alloc: Global, cases: &mut Vec<Case>, name: &str) -> Result<(), Refu
     Err(Refusal::Unknown)
 }
 
-// Adds bytes to what was named last.
+/// Adds bytes to what was named last.
 fn add(cases: &mut Vec<Case>, place: &mut Place, bytes: &[u8]) -> Result<(), Refusal> {
     let Some(case) = cases.last_mut() else {
         return Err(Refusal::NoCase);
@@ -209,7 +209,7 @@ fn extend(to: &mut Bytes, bytes: &[u8]) -> Result<(), Refusal> {
     Ok(())
 }
 
-// Where bytes from an offset of the disk on end.
+/// Where bytes from an offset of the disk on end.
 fn end_of(at: usize, count: usize) -> Result<usize, Refusal> {
     match at.checked_add(count) {
         Some(end) if end <= SIZE as usize => Ok(end),
@@ -217,7 +217,7 @@ fn end_of(at: usize, count: usize) -> Result<usize, Refusal> {
     }
 }
 
-// Puts bytes from an offset up to an end.
+/// Puts bytes from an offset up to an end.
 fn paste(disk: &mut Vec<u8>, at: usize, end: usize, bytes: &[u8]) -> Result<(), Refusal> {
     if disk.len() < end {
         disk.resize(end, 0)?;
@@ -241,7 +241,7 @@ fn add_hex(
     add(cases, place, &bytes)
 }
 
-// Adds a byte as often as the line says.
+/// Adds a byte as often as the line says.
 fn fill(cases: &mut Vec<Case>, place: &mut Place, text: &str) -> Result<(), Refusal> {
     let (count, value) = two_numbers(text)?;
     let Ok(value) = u8::try_from(value) else {
@@ -257,7 +257,7 @@ fn fill(cases: &mut Vec<Case>, place: &mut Place, text: &str) -> Result<(), Refu
     Ok(())
 }
 
-// Adds a line of text as often as the line says.
+/// Adds a line of text as often as the line says.
 fn repeat(cases: &mut Vec<Case>, place: &mut Place, text: &str) -> Result<(), Refusal> {
     let Some((count, line)) = text.split_once(' ') else {
         return Err(Refusal::Number);
@@ -269,7 +269,7 @@ fn repeat(cases: &mut Vec<Case>, place: &mut Place, text: &str) -> Result<(), Re
     Ok(())
 }
 
-// The place of the unit of this number, from 0.
+/// The place of the unit of this number, from 0.
 fn unit_of(text: &str) -> Result<usize, Refusal> {
     match number(text)? as usize {
         number if 1 <= number && number <= UNITS => Ok(number - 1),
@@ -277,7 +277,7 @@ fn unit_of(text: &str) -> Result<usize, Refusal> {
     }
 }
 
-// One call of the host, the sink or the disk fails, or loses power.
+/// One call of the host, the sink or the disk fails, or loses power.
 fn fail(case: &mut Case, text: &str) -> Result<(), Refusal> {
     let (side, rest) = side_in(text)?;
     case.failing.unit = case.unit;
@@ -295,7 +295,7 @@ fn fail(case: &mut Case, text: &str) -> Result<(), Refusal> {
     Ok(())
 }
 
-// Each of the first calls fails in turn.
+/// Each of the first calls fails in turn.
 fn each(alloc: Global, case: &mut Case, text: &str) -> Result<(), Refusal> {
     let (side, rest) = side_in(text)?;
     case.failing.unit = case.unit;
@@ -320,7 +320,7 @@ fn each(alloc: Global, case: &mut Case, text: &str) -> Result<(), Refusal> {
     Ok(())
 }
 
-// Whose calls a line names, and what comes after that.
+/// Whose calls a line names, and what comes after that.
 fn side_in(text: &str) -> Result<(Side, &str), Refusal> {
     let Some((word, rest)) = text.split_once(' ') else {
         return Err(Refusal::Number);
@@ -349,7 +349,7 @@ fn two_numbers(text: &str) -> Result<(u32, u32), Refusal> {
     Ok((number(one)?, number(other)?))
 }
 
-// The words of a run. A line without any has none.
+/// The words of a run. A line without any has none.
 fn words_of(alloc: Global, text: &str) -> Result<Vec<String>, Refusal> {
     let mut words = Vec::new(alloc);
     if text.is_empty() {
@@ -361,7 +361,7 @@ fn words_of(alloc: Global, text: &str) -> Result<Vec<String>, Refusal> {
     Ok(words)
 }
 
-// One word, where `%` is the empty one.
+/// One word, where `%` is the empty one.
 fn word_of(alloc: Global, word: &str) -> Result<String, Refusal> {
     if word == "%" {
         return Ok(String::new(alloc));

@@ -18,7 +18,7 @@ pub(crate) struct Tally {
     pub(crate) memory: u32,
 }
 
-// What a case runs over.
+/// What a case runs over.
 #[derive(Drop)]
 struct Fixture {
     host: MemHost,
@@ -42,7 +42,7 @@ pub(crate) fn run_case(
     }
 }
 
-// Runs a case once for each call that fails, and tells the same outcomes together.
+/// Runs a case once for each call that fails, and tells the same outcomes together.
 fn run_in_turn(
     alloc: Global,
     case: &Case,
@@ -72,7 +72,7 @@ fn run_in_turn(
     tell_turns(alloc, turns.side, first, turns.count, &last, told)
 }
 
-// Adds what is told of calls that came to the same.
+/// Adds what is told of calls that came to the same.
 fn tell_turns(
     alloc: Global,
     side: Side,
@@ -93,7 +93,7 @@ fn tell_turns(
     told.extend(outcome.as_slice())
 }
 
-// The calls that fail where it is the turn of this one.
+/// The calls that fail where it is the turn of this one.
 fn with_turn(failing: Failing, side: Side, number: u32) -> Failing {
     let mut failing = failing;
     match side {
@@ -106,7 +106,7 @@ fn with_turn(failing: Failing, side: Side, number: u32) -> Failing {
     failing
 }
 
-// Runs a case once over a host, a sink and disks of its own.
+/// Runs a case once over a host, a sink and disks of its own.
 fn run_once(
     alloc: Global,
     case: &Case,
@@ -127,7 +127,7 @@ fn run_once(
     ended
 }
 
-// Adds the disks of all units; one of them has a call that is set to fail, or to lose power.
+/// Adds the disks of all units; one of them has a call that is set to fail, or to lose power.
 fn add_disks(
     alloc: Global,
     case: &Case,
@@ -149,10 +149,11 @@ fn add_disks(
     Ok(())
 }
 
-// The call of the disk that comes before a run.
+/// The call of the disk that comes before a run.
 const RESTART: usize = 1;
 
-// The number of a call, counted from an object's first on, of which this many come before the runs.
+/// The number of a call, counted from an object's first on, of which this many come before the
+/// runs.
 fn counted_after(call: u32, before: usize) -> u32 {
     if call == 0 {
         return 0;
@@ -163,7 +164,7 @@ fn counted_after(call: u32, before: usize) -> u32 {
     }
 }
 
-// Writes the case's files, sets the calls that fail, runs, and tells what is there after that.
+/// Writes the case's files, sets the calls that fail, runs, and tells what is there after that.
 fn run_over(
     alloc: Global,
     case: &Case,
@@ -192,7 +193,7 @@ fn run_over(
     Ok(())
 }
 
-// Gives the host the case's files; the script that loses power gets a first line for that.
+/// Gives the host the case's files; the script that loses power gets a first line for that.
 fn write_files(
     alloc: Global,
     case: &Case,
@@ -213,7 +214,7 @@ fn write_files(
     Ok(())
 }
 
-// No call of the host before the runs is set to fail.
+/// No call of the host before the runs is set to fail.
 fn write_file(name: &str, bytes: &[u8], host: &mut MemHost) -> Result<(), NoMemory> {
     match host.write(name.as_bytes(), bytes) {
         Ok(()) => Ok(()),
@@ -221,7 +222,7 @@ fn write_file(name: &str, bytes: &[u8], host: &mut MemHost) -> Result<(), NoMemo
     }
 }
 
-// Runs one command and tells its words, its status and its output.
+/// Runs one command and tells its words, its status and its output.
 fn run_command(
     alloc: Global,
     case: &Case,
@@ -262,7 +263,7 @@ fn run_command(
     }
 }
 
-// Restarts all disks.
+/// Restarts all disks.
 fn are_restarted(disks: &mut [Fused<MemDisk>]) -> bool
     ensures many { length disks.new ≡ length disks.old }
     ensures running { result ≡ true → All (λ disk. disk.stopped ≡ false) disks.new }
@@ -275,14 +276,14 @@ fn are_restarted(disks: &mut [Fused<MemDisk>]) -> bool
     true
 }
 
-// Restarts a disk. A call that is set to fail may be the first, but not the second.
+/// Restarts a disk. A call that is set to fail may be the first, but not the second.
 fn is_restarted(disk: &mut Fused<MemDisk>) -> bool
     ensures { result ≡ true → disk.new.stopped ≡ false }
 {
     disk.restart().is_ok() || disk.restart().is_ok()
 }
 
-// Tells the line that a command was read from.
+/// Tells the line that a command was read from.
 fn tell_command(command: &Command, told: &mut Bytes) -> Result<(), NoMemory> {
     told.extend(b"run")?;
     if !command.words.is_empty() {
@@ -294,7 +295,7 @@ fn tell_command(command: &Command, told: &mut Bytes) -> Result<(), NoMemory> {
 
 const OUT_OF_MEMORY: u8 = 6;
 
-// The first known text that an output is, after its status and a space, or that it ends with.
+/// The first known text that an output is, after its status and a space, or that it ends with.
 fn known_of<'c>(
     alloc: Global,
     known: &'c [Known],
@@ -318,8 +319,8 @@ fn known_of<'c>(
     Ok(None)
 }
 
-// Tells the length and the check sum of a file of the host. A call that is set to fail may be the
-// first, but not the second.
+/// Tells the length and the check sum of a file of the host. A call that is set to fail may be the
+/// first, but not the second.
 fn tell_host_file(
     alloc: Global,
     name: &str,
@@ -348,10 +349,10 @@ fn tell_host_file(
     }
 }
 
-// The most bytes of the disk that are told.
+/// The most bytes of the disk that are told.
 const MOST: usize = 256;
 
-// Tells bytes of the disk.
+/// Tells bytes of the disk.
 fn tell_range(
     alloc: Global,
     at: u32,
@@ -370,7 +371,7 @@ fn tell_range(
     tell_bytes(alloc, at, &bytes[..count], told)
 }
 
-// Reads from a disk that is restarted first. Only one call of the two is set to fail.
+/// Reads from a disk that is restarted first. Only one call of the two is set to fail.
 fn is_read(disk: &mut Fused<MemDisk>, at: u32, buf: &mut [u8]) -> bool
     requires { at + length buf.old ≤ SIZE }
 {

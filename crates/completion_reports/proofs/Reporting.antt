@@ -10,7 +10,7 @@ use Rattle.tftp_link.specs.Answers.{Again, Answer, Completes, Dropped, Fails, Gr
 use Rattle.exchange_trace.specs.declared.trace.Side.TheVariants as sides
 use Rattle.exchange_trace.specs.Happenings.{DatagramView}
 use Rattle.exchange_trace.specs.Logs.{Event, Gets, Learns, Starts_info, Starts_upload, Ticks}
-use Rattle.transfer_end.specs.CameLaws.{all_mapped}
+use Rattle.transfer_end.proofs.CameLemmas.{all_mapped}
 use Rattle.transfer_end.specs.Laws.{IsLive}
 use Rattle.transfer_end.specs.Moves.{Asks, Asks_size, Hears, Move, Recalls, Refuses, Repeats, Serves, Stops, reading_after, reading_answered, reading_unchanged, readings_after}
 use Rattle.transfer_end.specs.OtherEnds.{MoveHasRole}
@@ -21,12 +21,12 @@ use Rattle.accept_rules.specs.Permissions.{Accepts}
 use Rattle.session_rules.specs.declared.outcome.FileKind.{FileKind}
 use Rattle.session_rules.specs.declared.outcome.FileKind.TheVariants as kinds
 use Rattle.session_rules.specs.declared.reason.Reason.{Reason}
-use Rattle.session_rules.specs.BufferLaws.{SumsJoin}
-use Rattle.session_rules.specs.CompletionLaws.{target_tells_installed}
+use Rattle.session_rules.proofs.BufferLemmas.{SumsJoin}
+use Rattle.session_rules.proofs.CompletionLemmas.{target_tells_installed}
 use Rattle.session_rules.specs.Completions.{InstallsNow, TellsInstalled}
 use Rattle.session_rules.specs.LoaderLog.{newest}
 use Rattle.session_rules.specs.Target as target
-use Rattle.session_rules.specs.TargetLaws.{FitsChange, after, decision_fits, end_stays}
+use Rattle.session_rules.proofs.TargetLemmas.{FitsChange, after, decision_fits, end_stays}
 use Rattle.session_rules.specs.TargetLog.{TargetReading, TargetSessionLog, standing_after, standing_in, target_extended, target_reading_changed, target_view, with_done}
 use Rattle.session_rules.specs.TargetRows.{Awaits_lur, Gives_denial, Gives_lci, Gives_lui, Over, Reads_file, RowMove, RowView, UploadEnd, WholeRow, Writes_completion, Writes_lcl, Writes_lcs, Writes_progress, Writes_ready, Writes_stop, row_move, view_moved, with_bytes}
 use Rattle.completion_reports.specs.Reports.{IsReport, WritesReport}

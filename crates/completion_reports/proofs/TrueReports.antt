@@ -13,77 +13,77 @@ use Rattle.transfer_end.specs.Readings.{Reading}
 use Rattle.transfer_end.specs.Transfers.{Transfer}
 use Rattle.accept_rules.specs.Permissions.{Accepts}
 use Rattle.session_rules.specs.declared.reason.Reason.{Reason}
-use Rattle.session_rules.specs.BufferLaws.{SumsJoin}
+use Rattle.session_rules.proofs.BufferLemmas.{SumsJoin}
 use Rattle.session_rules.specs.LoaderLog.{newest}
-use Rattle.session_rules.specs.ReadFileLaws.{session_is}
+use Rattle.session_rules.proofs.ReadFileLemmas.{session_is}
 use Rattle.session_rules.specs.SoundLogs.{IsNewAt, StaysOrIsNew}
 use Rattle.session_rules.specs.Target as target
-use Rattle.session_rules.specs.TargetLaws.{after}
+use Rattle.session_rules.proofs.TargetLemmas.{after}
 use Rattle.session_rules.specs.TargetLog.{TargetReading, TargetSessionLog, new_session, standing_after, standing_in, target_extended, target_reading_changed, target_view, with_done}
 use Rattle.session_rules.specs.TargetRows.{Gives_denial, Gives_lui, UploadEnd, WholeRow, Writes_completion, first_row}
 use Rattle.session_rules.specs.declared.outcome.FileKind.{FileKind}
 use Rattle.session_rules.specs.declared.outcome.FileKind.TheVariants as kinds
-use Rattle.replay_rules.specs.BothEnds.{Is_down, Is_up, Setting, TargetState, changed, come_up, gone_down, noted, reached, target_at}
+use Rattle.replay_rules.specs.BothEnds.{Is_down, Is_up, Setting, TargetStanding, changed, come_up, gone_down, noted, reached, target_at}
 use Rattle.replay_rules.specs.Changes.{AllStayOrAreNew, ChangesAreNew, TargetStaysOrIsNew}
 use Rattle.replay_rules.specs.Histories.{active_in, may_be_active}
-use Rattle.replay_rules.specs.TieLaws.{HasLive, target_is_live}
+use Rattle.replay_rules.proofs.TieLemmas.{HasLive, target_is_live}
 use Rattle.completion_reports.specs.Reports.{AllReportsAreTrue, HasSession, IsReport, ReportIsTrue, ReportsAreTrue, ReportsCompletion}
 use Rattle.completion_reports.proofs.Reporting.{IsCompleted, next_sequence, reading, step_completes}
 
 -- ---- a target that goes down has no session
 
-abbrev HasNone : TargetState → Type 0
+abbrev HasNone : TargetStanding → Type 0
 HasNone (Is_up r) = r.live ≡ None × r.end.live ≡ None
 HasNone (Is_down active interrupted) = Unit {0}
 
-gone_none : (before after : TargetState) → HasNone (gone_down before after)
+gone_none : (before after : TargetStanding) → HasNone (gone_down before after)
 gone_none (Is_up r) (Is_up s) = tt
 gone_none (Is_up r) (Is_down active interrupted) = tt
 gone_none (Is_down active interrupted) after = tt
 
-come_none : (first_port sequence : ℕ) (state : TargetState) → HasNone state → HasNone (come_up first_port sequence state)
+come_none : (first_port sequence : ℕ) (state : TargetStanding) → HasNone state → HasNone (come_up first_port sequence state)
 come_none first_port sequence (Is_up r) none = none
 come_none first_port sequence (Is_down active interrupted) none = (refl, refl)
 
-noted_none : (notes : List Note) (before after : TargetState) → HasNone after → HasNone (noted notes before after)
+noted_none : (notes : List Note) (before after : TargetStanding) → HasNone after → HasNone (noted notes before after)
 noted_none [] before after none = none
 noted_none (Went_down ∷ notes) before after none = noted_none notes (gone_down before after) (gone_down before after) (gone_none before after)
 noted_none (Came_up first_port sequence ∷ notes) before after none =
     let up = come_up first_port sequence (gone_down before after) in noted_none notes up up (come_none first_port sequence (gone_down before after) (gone_none before after))
 noted_none (Boot_refused fault ∷ notes) before after none = noted_none notes (gone_down before after) (gone_down before after) (gone_none before after)
 
-one_noted : (note : Note) (notes : List Note) (before after : TargetState) → HasNone (noted (note ∷ notes) before after)
+one_noted : (note : Note) (notes : List Note) (before after : TargetStanding) → HasNone (noted (note ∷ notes) before after)
 one_noted Went_down notes before after = noted_none notes (gone_down before after) (gone_down before after) (gone_none before after)
 one_noted (Came_up first_port sequence) notes before after =
     let up = come_up first_port sequence (gone_down before after) in noted_none notes up up (come_none first_port sequence (gone_down before after) (gone_none before after))
 one_noted (Boot_refused fault) notes before after = noted_none notes (gone_down before after) (gone_down before after) (gone_none before after)
 
 -- the target is up, and its session is in the row in which it reports that all is installed
-abbrev CompletedAt : TargetState → Type 0
+abbrev CompletedAt : TargetStanding → Type 0
 CompletedAt (Is_up r) = IsCompleted r
 CompletedAt (Is_down active interrupted) = ⊥
 
 no_session : (r : TargetReading) → r.live ≡ None → IsCompleted r → ⊥
 no_session r none c = let wrong : None ≡ Some c.session = sym none ∙ c.live in cc
 
-none_completed : (state : TargetState) → HasNone state → CompletedAt state → ⊥
+none_completed : (state : TargetStanding) → HasNone state → CompletedAt state → ⊥
 none_completed (Is_up r) (none, free) c = no_session r none c
 none_completed (Is_down active interrupted) none c = c
 
-none_reports : (state : TargetState) → HasNone state → ReportsCompletion state → ⊥
+none_reports : (state : TargetStanding) → HasNone state → ReportsCompletion state → ⊥
 none_reports (Is_up r) (none, free) h = subst IsReport free h
 none_reports (Is_down active interrupted) none h = h
 
 -- ---- a report is written in the row of the report
 
 module _ (joins : SumsJoin) (set : Setting) where
-  reached_completes : (state : TargetState) (e : Option Event) → HasLive state → (ReportsCompletion state → CompletedAt state) → ReportsCompletion (reached set e state) → CompletedAt (reached set e state)
+  reached_completes : (state : TargetStanding) (e : Option Event) → HasLive state → (ReportsCompletion state → CompletedAt state) → ReportsCompletion (reached set e state) → CompletedAt (reached set e state)
   reached_completes (Is_up r) None going before h = before h
   reached_completes (Is_up r) (Some e) going before h = step_completes set.accepts joins r e going before h
   reached_completes (Is_down active interrupted) None going before h = before h
   reached_completes (Is_down active interrupted) (Some e) going before h = before h
 
-  noted_completes : (notes : List Note) (before after : TargetState) → (ReportsCompletion after → CompletedAt after) → ReportsCompletion (noted notes before after) → CompletedAt (noted notes before after)
+  noted_completes : (notes : List Note) (before after : TargetStanding) → (ReportsCompletion after → CompletedAt after) → ReportsCompletion (noted notes before after) → CompletedAt (noted notes before after)
   noted_completes [] before after completes h = completes h
   noted_completes (note ∷ notes) before after completes h = absurd (none_reports (noted (note ∷ notes) before after) (one_noted note notes before after) h)
 
@@ -159,7 +159,7 @@ module _ (set : Setting) (given : HappeningView) (posts : List DatagramView) (ea
     brought = h.brought;
     stays_up = (refl, h.stays_up);
     installed = h.installed;
-    reports = subst (λ (state : TargetState). HasSession state h.session) (sym is) (live ∙ subst (λ (state : TargetState). HasSession state h.session) up h.reports);
+    reports = subst (λ (state : TargetStanding). HasSession state h.session) (sym is) (live ∙ subst (λ (state : TargetStanding). HasSession state h.session) up h.reports);
     completes = h.completes;
     asked = h.asked;
     made = h.made;
@@ -171,7 +171,7 @@ module _ (set : Setting) (given : HappeningView) (posts : List DatagramView) (ea
     later = target_extended set.accepts r e
 
     state_is : target_at set then ≡ Is_up later
-    state_is = ap (λ (state : TargetState). reached set (event_for sides.Target (posted_in earlier) given) state) up ∙ ap (λ (x : Option Event). reached set x (Is_up r)) comes
+    state_is = ap (λ (state : TargetStanding). reached set (event_for sides.Target (posted_in earlier) given) state) up ∙ ap (λ (x : Option Event). reached set x (Is_up r)) comes
 
     -- the step installs
     installs_now : (s : TargetSessionLog) → r.live ≡ Some s → later.live ≡ Some (with_done set.accepts r.active s (newest later.end.past)) → IsNewAt set.accepts r later → ReportIsTrue set then
@@ -188,14 +188,14 @@ module _ (set : Setting) (given : HappeningView) (posts : List DatagramView) (ea
           session = session;
           upload = new.upload;
           split = refl;
-          brought = ap (λ (state : TargetState). changed (active_in state) (active_in (reached set (event_for sides.Target (posted_in earlier) given) state))) up
+          brought = ap (λ (state : TargetStanding). changed (active_in state) (active_in (reached set (event_for sides.Target (posted_in earlier) given) state))) up
               ∙ ap (λ (x : Option Event). changed r.active (active_in (reached set x (Is_up r)))) comes ∙ brings_next r.active later.active new.loads new.next;
           stays_up = (refl, tt);
-          installed = subst (λ (state : TargetState). HasSession state session) (sym state_is) live;
-          reports = subst (λ (state : TargetState). HasSession state session) (sym state_is) live;
+          installed = subst (λ (state : TargetStanding). HasSession state session) (sym state_is) live;
+          reports = subst (λ (state : TargetStanding). HasSession state session) (sym state_is) live;
           completes = sym (ap (λ (x : TargetSessionLog). x.row) sessions) ∙ new.good;
           asked = new.new.each;
-          made = subst (λ (state : TargetState). later.active ≡ standing_after (active_in state) new.loads) (sym up) new.next;
+          made = subst (λ (state : TargetStanding). later.active ≡ standing_after (active_in state) new.loads) (sym up) new.next;
           only = ap may_be_active state_is;
         }
 
@@ -214,14 +214,14 @@ module _ (set : Setting) (given : HappeningView) (posts : List DatagramView) (ea
     completed_now before (inr new) c (turns s was live is) = installs_now s was live new
 
 module _ (set : Setting) where
-  abbrev TrueWhereCompleted : List Step → TargetState → Type 0
+  abbrev TrueWhereCompleted : List Step → TargetStanding → Type 0
   TrueWhereCompleted steps state = CompletedAt state → ReportIsTrue set steps
 
-  reached_true : (given : HappeningView) (posts : List DatagramView) (earlier : List Step) (state : TargetState) (e : Option Event) → target_at set earlier ≡ state → event_for sides.Target (posted_in earlier) given ≡ e → TrueWhereCompleted earlier state
+  reached_true : (given : HappeningView) (posts : List DatagramView) (earlier : List Step) (state : TargetStanding) (e : Option Event) → target_at set earlier ≡ state → event_for sides.Target (posted_in earlier) given ≡ e → TrueWhereCompleted earlier state
       → TargetStaysOrIsNew set state (reached set e state) → TrueWhereCompleted (record { given = given; posts = posts; notes = [] } ∷ earlier) (reached set e state)
   reached_true given posts earlier (Is_up r) None up comes before change c =
       let is : target_at set (record { given = given; posts = posts; notes = [] } ∷ earlier) ≡ Is_up r =
-      ap (λ (state : TargetState). reached set (event_for sides.Target (posted_in earlier) given) state) up ∙ ap (λ (x : Option Event). reached set x (Is_up r)) comes in
+      ap (λ (state : TargetStanding). reached set (event_for sides.Target (posted_in earlier) given) state) up ∙ ap (λ (x : Option Event). reached set x (Is_up r)) comes in
       still_true set given posts earlier r r up is refl refl (before c)
   reached_true given posts earlier (Is_up r) (Some e) up comes before change c =
       let d = target.target_decision set.accepts (target_view r) e in

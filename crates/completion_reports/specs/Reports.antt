@@ -10,7 +10,7 @@ use Rattle.session_rules.specs.Completions.{SaysCompleted}
 use Rattle.session_rules.specs.NewConfigs.{IsWanted}
 use Rattle.session_rules.specs.TargetLog.{TargetSessionLog, standing_after}
 use Rattle.session_rules.specs.TargetRows.{UploadEnd, Writes_completion}
-use Rattle.replay_rules.specs.BothEnds.{Is_down, Is_up, Setting, TargetState, target_at}
+use Rattle.replay_rules.specs.BothEnds.{Is_down, Is_up, Setting, TargetStanding, target_at}
 use Rattle.replay_rules.specs.Changes.{AllCarryBytes}
 use Rattle.replay_rules.specs.Histories.{active_at, brings, may_be_active}
 
@@ -27,14 +27,14 @@ IsReport (Some t) = WritesReport t.role
 
 -- The target writes such a file in its live transfer: from the step in which it posts the file's request, as long as it may
 -- send blocks of it.
-abbrev pub ReportsCompletion : TargetState → Type 0
+abbrev pub ReportsCompletion : TargetStanding → Type 0
 ReportsCompletion (Is_up r) = IsReport r.end.live
 ReportsCompletion (Is_down active interrupted) = ⊥
 
 -- ---- what it reports
 
 -- this session is live at a target that is up
-abbrev pub HasSession : TargetState → TargetSessionLog → Type 0
+abbrev pub HasSession : TargetStanding → TargetSessionLog → Type 0
 HasSession (Is_up r) session = r.live ≡ Some session
 HasSession (Is_down active interrupted) session = ⊥
 

@@ -4,7 +4,7 @@ use Rattle.std.specs.Prelude.{bit_xor}
 use Rattle.std.specs.Int.Bits.{xor_assoc, xor_zero_l}
 use Rattle.std.proofs.lemmas.Nat.{pow_pos, mod_below, shl_below, xor_comm}
 use Rattle.crc_fields.specs.CheckSums.{lowest_bits, register_after_bits, register_after}
-use Rattle.crc_fields.specs.WidthLaws.{after_bits_fits}
+use Rattle.crc_fields.proofs.WidthLemmas.{after_bits_fits}
 use Rattle.crc_fields.proofs.Cuts.{after_append, after_nothing, after_one}
 use Rattle.crc_fields.proofs.Linear.{at_once, bits_linear}
 

@@ -3,7 +3,7 @@ use Rattle.std.proofs.Common.{◌≡◌, ℕ, ◌+◌, ◌^◌, ◌<◌, List, [
 use Rattle.std.proofs.lemmas.List.{take_more, append-nil}
 use Rattle.std.proofs.lemmas.Grind.{fold-append, flat_map-append}
 use Rattle.crc_fields.specs.CheckSums.{lowest_bits, bits_of, register_after_bit, register_after_bits, register_after, inverted, crc16_of, crc32_of, crc16_after, crc32_after}
-use Rattle.crc_fields.specs.WidthLaws.{register_after_fits}
+use Rattle.crc_fields.proofs.WidthLemmas.{register_after_fits}
 
 pub after_append : (width polynomial register : ℕ) (first rest : List ℕ)
     → register_after width polynomial (register_after width polynomial register first) rest ≡ register_after width polynomial register (first ++ rest)

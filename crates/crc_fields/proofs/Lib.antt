@@ -6,3 +6,4 @@ pub mod Laws
 pub mod Linear
 pub mod Sixteens
 pub mod Tables
+pub mod WidthLemmas

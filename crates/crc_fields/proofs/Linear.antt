@@ -5,7 +5,7 @@ use Rattle.std.specs.Int.Bits.{xor_shifted, xor_assoc, xor_self, xor_zero_l, xor
 use Rattle.std.proofs.lemmas.Nat.{xor_block, xor_comm, xor_lt, xor_shr, xor_mod, pow-add, pow_pos, div_below, mod_below, shl_below, shr_below, shr_split, mod-pow-add, div-mul-add, mod-mul-add}
 use Rattle.std.proofs.Math.Nat.{zero-div, zero-mul, mul_comm, mul-le-mul_left, pow-suc, mod-one, div-eq_of_lt, mod-eq_of_lt}
 use Rattle.crc_fields.specs.CheckSums.{lowest_bits, register_after_bit, register_after_bits}
-use Rattle.crc_fields.specs.WidthLaws.{after_bit_fits}
+use Rattle.crc_fields.proofs.WidthLemmas.{after_bit_fits}
 
 -- the two middle ones of four change offsets
 xor_middle : (a b c d : ℕ) → bit_xor (bit_xor a b) (bit_xor c d) ≡ bit_xor (bit_xor a c) (bit_xor b d)

@@ -1,2 +1,1 @@
 pub mod CheckSums
-pub mod WidthLaws

@@ -5,7 +5,7 @@ ghost use Rattle.crc_fields.specs.CheckSums.{register_after_bits};
 
 use crate::entries::entries;
 
-// Table `zeros` has what a byte, and that many zero bytes after it, make of an empty register.
+/// Table `zeros` has what a byte, and that many zero bytes after it, make of an empty register.
 static TABLES: [[u16; 256]; 16] = [
     entries!(
         0x1021, 0x2042, 0x4084, 0x8108, 0x1231, 0x2462, 0x48C4, 0x9188
@@ -113,7 +113,7 @@ fn after_byte(register: u16, byte: u8) -> u16
     (register << 8) ^ entry(0, top ^ byte)
 }
 
-// What `byte`, and `zeros` zero bytes after it, make of an empty register.
+/// What `byte`, and `zeros` zero bytes after it, make of an empty register.
 #[tactic(auto, using(crate::proofs::Tables::entry_16))]
 fn entry(zeros: usize, byte: u8) -> u16
     requires { zeros < 16 }

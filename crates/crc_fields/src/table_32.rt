@@ -5,7 +5,7 @@ ghost use Rattle.crc_fields.specs.CheckSums.{register_after_bits};
 
 use crate::entries::entries;
 
-// Table `zeros` has what a byte, and that many zero bytes after it, make of an empty register.
+/// Table `zeros` has what a byte, and that many zero bytes after it, make of an empty register.
 static TABLES: [[u32; 256]; 16] = [
     entries!(
         0x04C11DB7, 0x09823B6E, 0x130476DC, 0x2608EDB8, 0x4C11DB70, 0x9823B6E0, 0x34867077,
@@ -131,7 +131,7 @@ fn after_byte(register: u32, byte: u8) -> u32
     (register << 8) ^ entry(0, top ^ byte)
 }
 
-// What `byte`, and `zeros` zero bytes after it, make of an empty register.
+/// What `byte`, and `zeros` zero bytes after it, make of an empty register.
 #[tactic(auto, using(crate::proofs::Tables::entry_32))]
 fn entry(zeros: usize, byte: u8) -> u32
     requires { zeros < 16 }

@@ -7,12 +7,12 @@ use Rattle.std.proofs.lemmas.List.Folds.{concat-append}
 use Rattle.std.proofs.lemmas.List.Sums.{sum_by-cons}
 use Rattle.field_grammar.specs.Cursor.{Cursor, start, at, past}
 use Rattle.field_grammar.specs.Grammar.{Grammar, Spelled, read, mapped, times, ◌then◌}
-use Rattle.field_grammar.specs.GrammarLaws.{what_follows_is_read}
-use Rattle.field_grammar.specs.MoveLaws.{same_bytes}
+use Rattle.field_grammar.proofs.GrammarLemmas.{what_follows_is_read}
+use Rattle.field_grammar.proofs.MoveLemmas.{same_bytes}
 use Rattle.disk_layout.specs.Entries.{SaysLoad, SaysLoads, entry_bytes, typed_loads}
-use Rattle.disk_layout.specs.EntriesLaws.{all_are_typed, none_is_typed, entry_bytes_first, entry_bytes_more, load_fits, total_length_more}
+use Rattle.disk_layout.proofs.EntriesLemmas.{all_are_typed, none_is_typed, entry_bytes_first, entry_bytes_more, load_fits, total_length_more}
 use Rattle.disk_layout.specs.Manifest.{Head, LoadEntry, LoadFits, ManifestFits, entries_length, file_entry, head_fields, in_layout, load_entry, load_entry_fields, manifest, manifest_fields, manifest_head, total_length}
-use Rattle.disk_layout.specs.ManifestSpelling.{manifest_spelling, spelled-head, spelled-load}
+use Rattle.disk_layout.proofs.ManifestSpelling.{manifest_spelling, spelled-head, spelled-load}
 use Rattle.disk_layout.specs.PassedLoads.{BeginsWithLoad, PassesLoad, StandsAt, most_length}
 use Rattle.disk_layout.specs.declared.manifest.Layout.{Layout}
 use Rattle.disk_layout.specs.declared.manifest.Layout.TheVariants as layouts

@@ -4,7 +4,7 @@ use Rattle.std.specs.Prelude.{IfErr}
 use Rattle.field_grammar.specs.Cursor.{Cursor, start}
 use Rattle.field_grammar.specs.Grammar.{IsBytes, SpelledAtStart, Fault, read}
 use Rattle.field_grammar.specs.Answers.{answer}
-use Rattle.field_grammar.specs.ExactLaws.{answer_is_spelled, answer_is_fault}
+use Rattle.field_grammar.proofs.ExactLemmas.{answer_is_spelled, answer_is_fault}
 use Rattle.disk_layout.specs.Identity.{identity}
 use Rattle.disk_layout.specs.declared.identity.Identity.{Identity}
 use Rattle.disk_layout.specs.Reading.{Parses}

@@ -7,3 +7,11 @@ pub mod ManifestReads
 pub mod Sizes
 pub mod SlotReads
 pub mod EntryReads
+pub mod EntriesLemmas
+pub mod FieldLemmas
+pub mod IdentityLemmas
+pub mod ManifestLemmas
+pub mod ManifestSpelling
+pub mod RangeLemmas
+pub mod SlotBodyLemmas
+pub mod SlotLemmas

@@ -4,7 +4,7 @@ use Rattle.std.specs.Prelude.{IfErr, IsErrOf}
 use Rattle.field_grammar.specs.Cursor.{Cursor, start}
 use Rattle.field_grammar.specs.Grammar.{Grammar, read, times, ended, ◌then◌}
 use Rattle.field_grammar.specs.Answers.{answer, Decodes}
-use Rattle.field_grammar.specs.StepLaws.{then_ok}
+use Rattle.field_grammar.proofs.StepLemmas.{then_ok}
 use Rattle.disk_layout.specs.Manifest.{Head, LoadEntry, manifest_head, load_entry, loads_from, manifest, with_these}
 use Rattle.disk_layout.specs.declared.manifest.Layout.{Layout}
 use Rattle.disk_layout.specs.declared.manifest.ManifestFault.{ManifestFault}

@@ -2,17 +2,17 @@
 use Rattle.std.proofs.Common.{◌≡◌, ℕ, ◌≤◌, List, length, Result, Ok, Err, IfOk, inl, inr}
 use Rattle.std.specs.Prelude.{IfErr}
 use Rattle.field_grammar.specs.Grammar.{IsBytes, Spelled}
-use Rattle.field_grammar.specs.Answers.{answer, Gives}
+use Rattle.field_grammar.specs.Answers.{answer, AnswersAs}
 use Rattle.disk_layout.specs.Manifest.{FitsALayout, manifest, manifest_view}
-use Rattle.disk_layout.specs.ManifestLaws.{manifest_found, manifest_faulty, fault_has_offset}
-use Rattle.disk_layout.specs.ManifestSpelling.{manifest_spelling}
+use Rattle.disk_layout.proofs.ManifestLemmas.{manifest_found, manifest_faulty, fault_has_offset}
+use Rattle.disk_layout.proofs.ManifestSpelling.{manifest_spelling}
 use Rattle.disk_layout.specs.declared.manifest.Manifest.{Manifest}
 use Rattle.disk_layout.specs.declared.manifest.ManifestFault.{ManifestFault}
 use Rattle.disk_layout.specs.declared.manifest.ManifestFault.TheVariants.{Wrong, Memory}
 use Rattle.disk_layout.specs.Manifest.{RefusesManifestBytes}
 
 abbrev GivesManifest : List ℕ → Result Manifest ManifestFault → Type 0
-GivesManifest bytes result = Gives Memory manifest_view result (answer manifest bytes)
+GivesManifest bytes result = AnswersAs Memory manifest_view result (answer manifest bytes)
 
 -- what was read is spelled
 pub is_spelled : (bytes : List ℕ) (result : Result Manifest ManifestFault) → IsBytes bytes → GivesManifest bytes result → IfOk result (λ m. Spelled manifest bytes (manifest_view m))

@@ -1,8 +1,8 @@
 -- How many bytes there are after a part more.
 use Rattle.std.proofs.Common.{◌≡◌, ℕ, ◌+◌, List, ◌++◌, length, ap, ◌∙◌, length-append}
 use Rattle.field_grammar.specs.Fields.{number_bytes, short_text}
-use Rattle.field_grammar.specs.NumberLaws.{length_number_bytes}
-use Rattle.field_grammar.specs.TextLaws.{length_short_text}
+use Rattle.field_grammar.proofs.NumberLemmas.{length_number_bytes}
+use Rattle.field_grammar.proofs.TextLemmas.{length_short_text}
 
 pub number_more : (n value : ℕ) (old new bytes : List ℕ) → bytes ≡ number_bytes n value → new ≡ old ++ bytes → length new ≡ length old + n
 number_more n value old new bytes is more =

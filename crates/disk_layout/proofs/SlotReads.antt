@@ -2,7 +2,7 @@
 use Rattle.std.proofs.Common.{◌≡◌, ℕ, ◌+◌, ◌-◌, ◌<◌, ◌≤◌, List, take, drop, get_or, ap, ◌∙◌, arith}
 use Rattle.byteorder.specs.Endian.{big_number}
 use Rattle.disk_model.specs.Image.{Image, range}
-use Rattle.disk_model.specs.RangeLaws.{byte_of_range, take_range, drop_range}
+use Rattle.disk_model.proofs.RangeLemmas.{byte_of_range, take_range, drop_range}
 use Rattle.disk_layout.specs.Offsets.{number_at}
 
 -- the number in this many bytes of what was read, and in the image

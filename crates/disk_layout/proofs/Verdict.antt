@@ -4,10 +4,10 @@ use Rattle.std.proofs.lemmas.Bool.{lt-ltb, le-ltb, le-leb, lt-leb, eq-eqb, ne_eq
 use Rattle.std.proofs.lemmas.List.{get_or_past}
 use Rattle.load_base.specs.Config.{LoadView}
 use Rattle.disk_model.specs.Image.{Image, range, IsOfBytes}
-use Rattle.disk_model.specs.RangeLaws.{length_range, byte_of_range}
+use Rattle.disk_model.proofs.RangeLemmas.{length_range, byte_of_range}
 use Rattle.field_grammar.specs.Grammar.{IsBytes, Spelled}
 use Rattle.field_grammar.specs.Answers.{answer}
-use Rattle.field_grammar.specs.ExactLaws.{answer-spelled, answer-fault, one_or_other, whole_one_or_other, spelled_at_start}
+use Rattle.field_grammar.proofs.ExactLemmas.{answer-spelled, answer-fault, one_or_other, whole_one_or_other, spelled_at_start}
 use Rattle.disk_layout.specs.Offsets.{slot_a, slot_b, bank_at, longest_manifest, longest_identity}
 use Rattle.disk_layout.specs.Identity.{identity, HasIdentity, HasNoIdentity}
 use Rattle.disk_layout.specs.Manifest.{LoadEntry, manifest, total_length}
@@ -22,8 +22,8 @@ use Rattle.disk_layout.specs.declared.fault.RecoverFault.TheVariants.{NotFormatt
 use Rattle.disk_layout.specs.declared.manifest.ManifestFault.{ManifestFault}
 use Rattle.disk_layout.specs.declared.manifest.ManifestFault.TheVariants as manifests
 use Rattle.disk_layout.proofs.Cuts.{cut, cut_entries, cut_contents, cut_headers, again}
-use Rattle.disk_layout.specs.ManifestLaws.{fault_has_offset, manifest_ends}
-use Rattle.disk_layout.specs.SlotLaws.{one_slot, none_is_active, some_slot}
+use Rattle.disk_layout.proofs.ManifestLemmas.{fault_has_offset, manifest_ends}
+use Rattle.disk_layout.proofs.SlotLemmas.{one_slot, none_is_active, some_slot}
 
 -- ---- the active slot
 

@@ -1,6 +1,6 @@
 -- The manifest of a configuration (docs/DISK.md).
 use Rattle.std.specs.Prelude.{◌≡◌, ℕ, ◌<◌, ◌≤◌, List, [], ◌∷◌, ◌++◌, length, map, nat_le, ◌==◌, ◌&&◌, ◌||◌, is_none, true, Option, Some, None, Result, Ok}
-use Rattle.std.specs.List.{All, flat_map, sum_by}
+use Rattle.std.specs.List.{All, concat, flat_map, sum_by}
 use Rattle.load_base.specs.Host.{longest_file}
 use Rattle.load_base.specs.Name.{IsName}
 use Rattle.load_base.specs.PartText.{IsPartText}
@@ -199,6 +199,10 @@ pub record ManifestFits (layout : Layout) (loads : List LoadEntry) : Type 0 wher
 pub record FitsALayout (loads : List LoadEntry) : Type 0 where
   pub layout : Layout
   pub fits : ManifestFits layout loads
+
+-- the bytes are the fields of these loads in one of the layouts
+abbrev pub IsManifestText : List ℕ → List LoadEntry → Type 0
+IsManifestText bytes loads = (layout : Layout) × ManifestFits layout loads × (bytes ≡ concat (manifest_fields layout loads))
 
 -- the bytes are no manifest from this offset on, or out of memory
 abbrev pub RefusesManifestBytes : List ℕ → ManifestFault → Type 0

@@ -74,6 +74,7 @@ fn pass_load(reader: &mut Reader) -> u64
 {
     match read_lengths(reader) {
         Ok(length) => length,
+        // The premise says that an entry stands here.
         Err(_) => unreachable!(),
     }
 }

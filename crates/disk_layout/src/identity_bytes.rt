@@ -30,7 +30,7 @@ impl Model for IdentityBytes {
 }
 
 impl IdentityBytes {
-    // The bytes of this identity, as they stand at the start of a disk.
+    /// The bytes of this identity, as they stand at the start of a disk.
     #[tactic(auto, unfolding(crate::specs::Identity::identity_text))]
     pub(crate) fn of(identity: &Identity) -> IdentityBytes
         requires { IsBankSize identity.now.bank }

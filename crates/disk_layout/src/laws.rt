@@ -8,8 +8,7 @@ ghost use Rattle.disk_layout.specs.Offsets.{layout_mark, number_at};
 ghost use Rattle.disk_layout.specs.Identity.{IsIdentity, identity_text, HasIdentity};
 ghost use Rattle.disk_layout.specs.Slots.{IsOpen, HasBody, sequence_of, bank_of};
 ghost use Rattle.disk_layout.specs.Slots.{manifest_offset_of, manifest_length_of};
-ghost use Rattle.disk_layout.specs.Manifest.{LoadEntry, manifest};
-ghost use Rattle.disk_layout.specs.ManifestSpelling.{IsManifestText};
+ghost use Rattle.disk_layout.specs.Manifest.{LoadEntry, manifest, IsManifestText};
 ghost use Rattle.disk_layout.specs.Holds.{StandingView, Outline, outline_of, HasOutline, HoldsBy};
 ghost use Rattle.disk_layout.specs.Holds.{HoldsConfig, HasDiskFault};
 ghost use Rattle.disk_layout.specs.declared.active.ManifestRange.{ManifestRange};
@@ -71,8 +70,8 @@ pub fn an_outline_is_filled()
 
 /// Bytes are one manifest, or fail at one of their offsets or at their end, and never because it is
 /// out of memory. Loads have one manifest in each layout that can say them: the empty list has two,
-/// any other one. The lemmas of `specs/ManifestLaws.antt` and `specs/ManifestSpelling.antt` say the
-/// same to proofs.
+/// any other one. `proofs/ManifestLemmas.antt` and `proofs/ManifestSpelling.antt` say the same to
+/// proofs.
 pub fn a_manifest_is_decided()
     ensures decided { (bytes : List ℕ) → IsBytes bytes → IsDecided manifest bytes }
     ensures spelling { (bytes : List ℕ) (loads : List LoadEntry)

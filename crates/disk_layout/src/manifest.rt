@@ -2,7 +2,7 @@
 ghost use Rattle.std.specs.Prelude.{◌≡◌, ◌+◌, ◌≤◌, ◌⊎◌, [], ◌∷◌, Ok, Err, map};
 ghost use Rattle.std.specs.Prelude.{IfOk, IfErr, OnOk, IsErrOf};
 ghost use Rattle.field_grammar.specs.Grammar.{Spelled, times, ended};
-ghost use Rattle.field_grammar.specs.Answers.{answer, Decodes, Gives};
+ghost use Rattle.field_grammar.specs.Answers.{answer, Decodes, AnswersAs};
 ghost use Rattle.disk_layout.specs.Manifest.{FitsALayout, RefusesManifestBytes, entry_view};
 ghost use Rattle.disk_layout.specs.Offsets.{most_loads};
 ghost use Rattle.disk_layout.specs.Manifest.{manifest_view, first_number, load_count, in_layout};
@@ -113,8 +113,8 @@ impl<'a> ManifestReader<'a> {
         Ok(load)
     }
 
-    /// Tests that nothing follows, where no load is left, or gives the offset of the first byte that
-    /// does.
+    /// Tests that nothing follows, where no load is left, or gives the offset of the first byte
+    /// that does.
     pub fn end(&mut self) -> Result<(), ManifestFault>
         requires { self.old.left ≡ 0 }
         ensures ended { OnOk result (left_in self.old ≡ Ok []) }
@@ -144,7 +144,7 @@ impl From<NoMemory> for ManifestFault {
 
 #[tactic(auto, unfolding(crate::specs::Manifest::manifest))]
 fn read_manifest(alloc: Global, bytes: &[u8]) -> Result<Manifest, ManifestFault>
-    ensures { Gives Memory manifest_view result (answer manifest bytes.now) }
+    ensures { AnswersAs Memory manifest_view result (answer manifest bytes.now) }
 {
     let mut reader = Reader::new(bytes);
     let head = read_head(&mut reader)?;
@@ -153,7 +153,7 @@ fn read_manifest(alloc: Global, bytes: &[u8]) -> Result<Manifest, ManifestFault>
     Ok(Manifest { loads })
 }
 
-#[tactic(auto, using(field_grammar::specs::LoopLaws::goes_on_seen, field_grammar::specs::LoopLaws::ends, field_grammar::specs::LoopLaws::is_done, field_grammar::specs::LoopLaws::begins))]
+#[tactic(auto, using(field_grammar::proofs::LoopLemmas::goes_on_seen, field_grammar::proofs::LoopLemmas::ends, field_grammar::proofs::LoopLemmas::is_done, field_grammar::proofs::LoopLemmas::begins))]
 fn read_loads(
     alloc: Global,
     layout: Layout,
@@ -211,7 +211,7 @@ pub(crate) fn read_type_number(reader: &mut Reader) -> Result<u16, ManifestFault
     }
 }
 
-#[tactic(auto, using(field_grammar::specs::LoopLaws::goes_on, field_grammar::specs::LoopLaws::ends, field_grammar::specs::LoopLaws::is_done, field_grammar::specs::LoopLaws::begins))]
+#[tactic(auto, using(field_grammar::proofs::LoopLemmas::goes_on, field_grammar::proofs::LoopLemmas::ends, field_grammar::proofs::LoopLemmas::is_done, field_grammar::proofs::LoopLemmas::begins))]
 fn read_files(
     alloc: Global,
     count: u16,

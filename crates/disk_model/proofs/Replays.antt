@@ -9,13 +9,13 @@ use Rattle.disk_model.specs.Image.{Image, image_of, range, overlay}
 use Rattle.disk_model.specs.State.{IsSettled, Closed, KeepsClosed, Torn, Elapses}
 use Rattle.disk_model.specs.Note.{offset_of, written_length, laid, opened, image_after, ranges_after}
 use Rattle.disk_model.specs.Replay.{replayed, open_ranges, OutsideAll, MayLeave, UntilNext, MightHaveLeft, recorded, AddsWrite, IsSettling}
-use Rattle.disk_model.specs.ReplayLaws.{at_the_end}
+use Rattle.disk_model.specs.Laws.{at_the_end}
 use Rattle.disk_model.specs.declared.disk.DiskFault.{DiskFault}
 use Rattle.disk_model.specs.declared.note.Call.{Call}
 use Rattle.disk_model.specs.declared.note.Call.TheVariants.{Write, Sync, Restart}
 use Rattle.disk_model.specs.declared.note.Note.{Note}
-use Rattle.disk_model.specs.OverlayLaws.{offset_cases, overlay_outside, laid_inside, laid_outside}
-use Rattle.disk_model.specs.MomentLaws.{elapses_more, torn_nowhere}
+use Rattle.disk_model.proofs.OverlayLemmas.{offset_cases, overlay_outside, laid_inside, laid_outside}
+use Rattle.disk_model.proofs.MomentLemmas.{elapses_more, torn_nowhere}
 
 -- an offset that the call doesn't write
 abbrev Untouched : Call → ℕ → Type 0

@@ -3,8 +3,8 @@ use Rattle.std.specs.Prelude.{◌≡◌, ℕ, ◌<◌, List, [], ◌++◌, lengt
 use Rattle.std.specs.List.{slice_index_or}
 
 -- the buffer has the file's bytes from its start on, and zeros after the file's end
-abbrev pub IsFilled : (told buf : List ℕ) → Type 0
-IsFilled told buf = (i : ℕ) → i < length buf → slice_index_or buf i 0 ≡ slice_index_or told i 0
+abbrev pub IsFilledFrom : (told buf : List ℕ) → Type 0
+IsFilledFrom told buf = (i : ℕ) → i < length buf → slice_index_or buf i 0 ≡ slice_index_or told i 0
 
 -- this many bytes of the buffer are the file's first, and where these are fewer than it takes, they are all
 pub record ReadsUpTo (told : List ℕ) (count : ℕ) (buf : List ℕ) : Type 0 where

@@ -7,9 +7,5 @@ pub mod MemDisk
 pub mod Moments
 pub mod Note
 pub mod Replay
-pub mod ReplayLaws
 pub mod State
-pub mod MomentLaws
-pub mod FusedLaws
-pub mod OverlayLaws
-pub mod RangeLaws
+pub mod Laws

@@ -31,7 +31,7 @@ abbrev pub state_of : MemDisk → DiskState
 state_of disk = recorded disk.first.items disk.notes.items disk.bytes.items disk.faults disk.refusals disk.stopped
 
 -- a call is counted, and fails where it is set to
-pub record CountsCall (old new : MemDisk) (result : Result Unit DiskFault) : Type 0 where
+pub record CountsDiskCall (old new : MemDisk) (result : Result Unit DiskFault) : Type 0 where
   pub counts : Failing.CountsCall (calls_of old) (calls_of new)
   pub ok : OnOk result (¬ IsSetToFail (calls_of old))
   pub failed : IsErrOf result Failed → IsSetToFail (calls_of old)

@@ -86,7 +86,7 @@ pub trait Disk {
         → (state disk).between t u image ⊎ (state disk).between u v image };
 }
 
-// Counts a refusal, which stops the disk.
+/// Counts a refusal, which stops the disk.
 pub(crate) fn refuse(count: &mut FaultCount, stopped: &mut bool)
     ensures rose { Rose count.old count.new }
     ensures once { count.new ≤ count.old + 1 }

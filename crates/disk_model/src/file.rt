@@ -14,9 +14,10 @@ use std::io::{self, ErrorKind};
 use std::rt::Files;
 
 /// A disk in a file; bytes past its end read as zero. The file is opened, locked and synced at the
-/// first call, and stays so until this object goes: another program waits for that, and another disk
-/// of the same `OpenedFiles` fails. A missing file reads as zeros until the first write, which makes
-/// it. An error of the system is a fault of the disk. `restart` writes out what the file holds.
+/// first call, and stays so until this object goes: another program waits for that, and another
+/// disk of the same `OpenedFiles` fails. A missing file reads as zeros until the first write, which
+/// makes it. An error of the system is a fault of the disk. `restart` writes out what the file
+/// holds.
 ///
 /// Once the system couldn't write out what it holds, it may have lost it while it still reads it:
 /// from then on each call fails, of this disk and also after a restart. So it is where another run
@@ -33,8 +34,8 @@ impl<'r, R: Files<File = File>> FileDisk<'r, R> {
     ghost use Rattle.disk_model.specs.FileDisk.{name_of, state_of};
 
     /// The disk in the file of this name, which is not opened yet, beside those of a program that
-    /// opened these. All disks of a program take one `OpenedFiles`: one of another would wait for the
-    /// lock of its own program for ever, where the file is the same.
+    /// opened these. All disks of a program take one `OpenedFiles`: one of another would wait for
+    /// the lock of its own program for ever, where the file is the same.
     pub fn new(rt: &'r R, opened: &'r OpenedFiles, name: &'r str) -> FileDisk<'r, R>
         ensures name { name_of result ≡ name.now }
         ensures running { (state_of result).stopped ≡ false }
@@ -101,7 +102,7 @@ impl<R: Files<File = File>> Disk for FileDisk<'_, R> {
     }
 }
 
-// Advances the clock. At the greatest `u64` it can't, and the call fails.
+/// Advances the clock. At the greatest `u64` it can't, and the call fails.
 fn advance(clock: &mut u64) -> io::Result<()>
     ensures later { clock.old ≤ clock.new }
     ensures advances { OnOk result (clock.old < clock.new) }
@@ -113,7 +114,7 @@ fn advance(clock: &mut u64) -> io::Result<()>
     Ok(())
 }
 
-// An error of the system is a fault of the disk, and stops it.
+/// An error of the system is a fault of the disk, and stops it.
 fn answer(
     outcome: io::Result<()>,
     faults: &mut FaultCount,
@@ -139,7 +140,7 @@ fn answer(
     }
 }
 
-// The file of a disk.
+/// The file of a disk.
 #[derive(Drop)]
 struct DiskFile<'r, R: Files<File = File>> {
     rt: &'r R,
@@ -150,7 +151,7 @@ struct DiskFile<'r, R: Files<File = File>> {
     is_lost: bool,
 }
 
-// What the first call found under the file's name.
+/// What the first call found under the file's name.
 #[derive(Drop)]
 enum Found {
     NotYet,
@@ -159,7 +160,7 @@ enum Found {
 }
 
 impl<R: Files<File = File>> DiskFile<'_, R> {
-    // In no file all reads as zero.
+    /// In no file all reads as zero.
     fn read_at(&mut self, at: u32, buf: &mut [u8]) -> io::Result<()> {
         self.find()?;
         if let Found::File(file) = &self.found {
@@ -178,7 +179,7 @@ impl<R: Files<File = File>> DiskFile<'_, R> {
         }
     }
 
-    // Writes out what the file holds.
+    /// Writes out what the file holds.
     fn sync(&mut self) -> io::Result<()> {
         self.find()?;
         if let Found::File(file) = &self.found {
@@ -189,7 +190,7 @@ impl<R: Files<File = File>> DiskFile<'_, R> {
         Ok(())
     }
 
-    // Opens the file at the first call.
+    /// Opens the file at the first call.
     fn find(&mut self) -> io::Result<()> {
         if self.is_lost {
             return Err(io::Error::from(ErrorKind::Other));
@@ -206,7 +207,7 @@ impl<R: Files<File = File>> DiskFile<'_, R> {
         }
     }
 
-    // Makes the file where there was none.
+    /// Makes the file where there was none.
     fn make(&mut self) -> io::Result<()> {
         if !matches!(self.found, Found::Nothing) {
             return Ok(());

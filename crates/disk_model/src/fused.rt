@@ -16,10 +16,10 @@ use crate::{Disk, DiskFault, Power, SIZE};
 use load_base::FaultCount;
 use std::marker::Model;
 
-// The most ranges that are kept.
+/// The most ranges that are kept.
 const MOST: usize = 16;
 
-// Bytes that are spoiled in one write.
+/// Bytes that are spoiled in one write.
 const PIECE: usize = 64;
 
 /// A disk over `inner` whose power can be lost (docs/DISK.md, "The simulated power loss").
@@ -100,7 +100,7 @@ impl<K: Disk + Drop> Fused<K> {
         }
     }
 
-    // Writes, and keeps the range as unsynced.
+    /// Writes, and keeps the range as unsynced.
     fn write_range(&mut self, at: u32, bytes: &[u8]) -> Result<(), DiskFault>
         requires running { self.old.stopped ≡ false }
         requires within { at + length bytes.now ≤ SIZE }
@@ -115,7 +115,7 @@ impl<K: Disk + Drop> Fused<K> {
         self.write_apart(at, bytes)
     }
 
-    // Writes where the last range ends.
+    /// Writes where the last range ends.
     fn write_on(&mut self, at: u32, bytes: &[u8]) -> Result<(), DiskFault>
         requires running { self.old.stopped ≡ false }
         requires within { at + length bytes.now ≤ SIZE }
@@ -140,7 +140,7 @@ impl<K: Disk + Drop> Fused<K> {
         outcome
     }
 
-    // Writes a range more.
+    /// Writes a range more.
     fn write_apart(&mut self, at: u32, bytes: &[u8]) -> Result<(), DiskFault>
         requires running { self.old.stopped ≡ false }
         requires within { at + length bytes.now ≤ SIZE }
@@ -164,7 +164,7 @@ impl<K: Disk + Drop> Fused<K> {
         outcome
     }
 
-    // Syncs, after which no range is unsynced.
+    /// Syncs, after which no range is unsynced.
     fn sync_all(&mut self) -> Result<(), DiskFault>
         requires running { self.old.stopped ≡ false }
         ensures kept { OnOk result ((K.state self.new.inner).reads
@@ -185,7 +185,7 @@ impl<K: Disk + Drop> Fused<K> {
         outcome
     }
 
-    // Where power was lost, what wasn't synced is spoiled.
+    /// Where power was lost, what wasn't synced is spoiled.
     fn spoil_lost(&mut self) -> Result<(), DiskFault>
         ensures no_image { MayElapse (K.state self.old.inner) (K.state self.new.inner) }
         ensures counts { OnOk result (KeepsCounts (K.state self.old.inner)
@@ -205,7 +205,7 @@ impl<K: Disk + Drop> Fused<K> {
         outcome
     }
 
-    // Restarts the disk below, after which no range is unsynced.
+    /// Restarts the disk below, after which no range is unsynced.
     fn restart_inner(&mut self) -> Result<(), DiskFault>
         ensures settled { OnOk result (IsSettled (K.state self.new.inner)) }
         ensures elapses { Elapses (K.state self.old.inner) (K.state self.new.inner)
@@ -223,7 +223,7 @@ impl<K: Disk + Drop> Fused<K> {
         outcome
     }
 
-    // Power is lost at a call, which fails.
+    /// Power is lost at a call, which fails.
     fn lose(&mut self) -> Result<(), DiskFault>
         requires running { (K.state self.old.inner).stopped ≡ false }
         ensures inner { self.new.inner ≡ self.old.inner }
@@ -345,7 +345,7 @@ impl<K: Disk + Drop> Power for Fused<K> {
     }
 }
 
-// One call more: whether the power loss that is armed comes at it.
+/// One call more: whether the power loss that is armed comes at it.
 fn is_due(left: &mut u32) -> bool
     ensures due { IsTrue result ↔ (left.old ≡ 1) }
     ensures counts { left.new ≡ left.old - 1 }
@@ -355,7 +355,7 @@ fn is_due(left: &mut u32) -> bool
     due
 }
 
-// Whether the last range ends at this offset.
+/// Whether the last range ends at this offset.
 fn is_end(offsets: &[u32; MOST], lengths: &[u32; MOST], count: usize, at: u32) -> bool
     requires counted { count ≤ MOST }
     ensures some { result ≡ true → 0 < count }
@@ -369,7 +369,7 @@ fn is_end(offsets: &[u32; MOST], lengths: &[u32; MOST], count: usize, at: u32) -
     offset <= at && at - offset == lengths[count - 1]
 }
 
-// One range is at this offset, and so long.
+/// One range is at this offset, and so long.
 fn keep<K: Disk>(
     disk: &K,
     offsets: &mut [u32; MOST],
@@ -388,7 +388,7 @@ fn keep<K: Disk>(
     lengths[index] = length;
 }
 
-// The range of this number is so much longer.
+/// The range of this number is so much longer.
 fn lengthen<K: Disk>(
     disk: &K,
     offsets: &mut [u32; MOST],
@@ -409,7 +409,7 @@ fn lengthen<K: Disk>(
     keep(disk, offsets, lengths, index, offset, whole);
 }
 
-// Spoils the ranges that weren't synced, the one of number i by `choice` + i.
+/// Spoils the ranges that weren't synced, the one of number i by `choice` + i.
 fn spoil<K: Disk>(
     disk: &mut K,
     offsets: &[u32; MOST],
@@ -434,7 +434,7 @@ fn spoil<K: Disk>(
     Ok(())
 }
 
-// A range stays, becomes zeros, or bytes of the generator that starts at `choice`.
+/// A range stays, becomes zeros, or bytes of the generator that starts at `choice`.
 fn spoil_range<K: Disk>(disk: &mut K, at: u32, length: u32, choice: u32) -> Result<(), DiskFault>
     requires running { (K.state disk.old).stopped ≡ false }
     requires steady { (K.state disk.old).steady ≡ true }
@@ -457,7 +457,7 @@ fn spoil_range<K: Disk>(disk: &mut K, at: u32, length: u32, choice: u32) -> Resu
     Ok(())
 }
 
-// Writes over a part of a range.
+/// Writes over a part of a range.
 fn spoil_part<K: Disk>(
     disk: &mut K,
     at: u32,
@@ -476,7 +476,7 @@ fn spoil_part<K: Disk>(
     disk.write(from, bytes)
 }
 
-// The next bytes of the generator.
+/// The next bytes of the generator.
 fn generate(number: &mut u32, piece: &mut [u8; PIECE]) {
     for byte in piece.iter_mut() {
         *number = next_number(*number);

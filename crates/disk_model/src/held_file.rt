@@ -1,7 +1,7 @@
 //! The file of a disk, which one run has to itself, and of which a power loss leaves what is read.
 //! Only `LockedFile::synced` makes a `HeldFile`, and only a `HeldFile` is read and written.
 ghost use Rattle.std.specs.Prelude.{◌≤◌, length, IfOk, IfSome, OnOk};
-ghost use Rattle.disk_model.specs.FilledReads.{IsFilled, ReadsUpTo};
+ghost use Rattle.disk_model.specs.FilledReads.{IsFilledFrom, ReadsUpTo};
 
 use crate::OpenedFiles;
 use crate::opened_files::FileId;
@@ -26,15 +26,15 @@ pub(crate) struct HeldFile {
     access: Access,
 }
 
-// A file from an offset on. It is read and written there in one call of the system each, and where
-// the file itself stands doesn't matter.
+/// A file from an offset on. It is read and written there in one call of the system each, and where
+/// the file itself stands doesn't matter.
 #[derive(Drop)]
 struct FileFrom<'f> {
     file: &'f File,
     offset: u64,
 }
 
-// How a file was opened.
+/// How a file was opened.
 #[derive(Clone, Copy, PartialEq)]
 enum Access {
     // It may not be written.
@@ -47,8 +47,8 @@ enum Access {
 impl LockedFile {
     /// Opens the file of this name and locks it, waiting while another run has the lock; None where
     /// there is none of this name. What is neither a file nor a block device, as a FIFO, is refused
-    /// before it is opened; a file that another disk of this run has opened, before it is waited for;
-    /// and so is a file that lost its name to another meanwhile.
+    /// before it is opened; a file that another disk of this run has opened, before it is waited
+    /// for; and so is a file that lost its name to another meanwhile.
     pub(crate) fn open<R: Files<File = File>>(
         rt: &R,
         opened: &OpenedFiles,
@@ -134,8 +134,8 @@ impl Write for FileFrom<'_> {
     }
 }
 
-// A file that may be written is opened for both at once, so that one descriptor has the lock, and
-// is synced, read and written.
+/// A file that may be written is opened for both at once, so that one descriptor has the lock, and
+/// is synced, read and written.
 fn open_locked<R: Files<File = File>>(
     rt: &R,
     opened: &OpenedFiles,
@@ -164,7 +164,7 @@ fn locked_for_reading<R: Files<File = File>>(
     locked(rt, opened, name, file, Access::Reading)
 }
 
-// The file may have lost its name to another one while it was opened or waited for.
+/// The file may have lost its name to another one while it was opened or waited for.
 fn locked<R: Files<File = File>>(
     rt: &R,
     opened: &OpenedFiles,
@@ -184,8 +184,8 @@ fn locked<R: Files<File = File>>(
     Ok(LockedFile { file, access })
 }
 
-// Of a file that may not be written the lock is shared: some network file systems grant no other
-// for reading alone.
+/// Of a file that may not be written the lock is shared: some network file systems grant no other
+/// for reading alone.
 fn lock(file: &File, access: Access) -> io::Result<()> {
     match access {
         Access::Reading => file.lock_shared(),
@@ -209,8 +209,8 @@ fn may_not_be_written(kind: ErrorKind) -> bool {
     )
 }
 
-// Where standard output is closed the system gives its descriptor to the next file that is opened,
-// and output would go into the disk. A clone's descriptor is 3 at least, and has the same lock.
+/// Where standard output is closed the system gives its descriptor to the next file that is opened,
+/// and output would go into the disk. A clone's descriptor is 3 at least, and has the same lock.
 fn open_above_standard<R: Files<File = File>>(
     rt: &R,
     how: &OpenOptions,
@@ -226,16 +226,16 @@ fn sync(file: &File, access: Access) -> io::Result<()> {
     file.sync_all()
 }
 
-// Fills the buffer with what the file has, and with zeros after its end.
+/// Fills the buffer with what the file has, and with zeros after its end.
 fn fill_from<F: Read>(file: &mut F, buf: &mut [u8]) -> io::Result<()>
-    ensures { OnOk result (IfSome (F.remaining file.old) (λ told. IsFilled told buf.new)) }
+    ensures { OnOk result (IfSome (F.remaining file.old) (λ told. IsFilledFrom told buf.new)) }
 {
     let filled = read_up_to(file, buf)?;
     buf[filled..].fill(0);
     Ok(())
 }
 
-// Reads until the buffer is full or the file ends.
+/// Reads until the buffer is full or the file ends.
 fn read_up_to<F: Read>(file: &mut F, buf: &mut [u8]) -> io::Result<usize>
     ensures bound { IfOk result (λ count. count ≤ length buf.new) }
     ensures bytes { IfOk result (λ count. IfSome (F.remaining file.old)

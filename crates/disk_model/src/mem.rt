@@ -8,8 +8,8 @@ ghost use Rattle.disk_model.specs.State.{IsSettled, Closed, KeepsClosed, OnlyRea
 ghost use Rattle.disk_model.specs.State.{HasCause};
 ghost use Rattle.disk_model.specs.Replay.{replayed, MayLeave, MightHaveLeft, AddsWrite};
 ghost use Rattle.disk_model.specs.Replay.{IsSettling};
-ghost use Rattle.disk_model.specs.ReplayLaws.{held_may_leave, counts_its_now, only_its_now};
-ghost use Rattle.disk_model.specs.ReplayLaws.{wider_time, split_time};
+ghost use Rattle.disk_model.specs.Laws.{held_may_leave, counts_its_now, only_its_now};
+ghost use Rattle.disk_model.specs.Laws.{wider_time, split_time};
 
 use crate::disk::refuse;
 use crate::{Call, Disk, DiskFault, Note, SIZE};
@@ -37,7 +37,7 @@ pub struct MemDisk {
 
 impl MemDisk {
     ghost use Rattle.disk_model.specs.MemDisk.{disk_bytes, first_of, notes_of, calls_of, state_of};
-    ghost use Rattle.disk_model.specs.MemDisk.{CountsCall, IsUnchanged, NotesCall};
+    ghost use Rattle.disk_model.specs.MemDisk.{CountsDiskCall, IsUnchanged, NotesCall};
 
     /// A disk with these bytes from offset 0 on, that has not failed.
     pub fn new(alloc: Global, bytes: &[u8]) -> Result<MemDisk, NoMemory>
@@ -121,10 +121,10 @@ impl MemDisk {
         self.notes.as_slice()
     }
 
-    // Keeps a note of a sync or a restart, and lets it fail where that is set.
+    /// Keeps a note of a sync or a restart, and lets it fail where that is set.
     fn settle(&mut self, call: Call) -> Result<(), DiskFault>
         requires { IsSettling call }
-        ensures counts { CountsCall self.old self.new result }
+        ensures counts { CountsDiskCall self.old self.new result }
         ensures notes { NotesCall call self.old self.new result }
         ensures settled { OnOk result (IsSettled (state_of self.new)) }
         ensures elapses { Elapses (state_of self.old) (state_of self.new)
@@ -147,7 +147,7 @@ impl MemDisk {
 }
 
 impl Disk for MemDisk {
-    ghost use Rattle.disk_model.specs.MemDisk.{state_of, CountsCall, IsUnchanged, NotesCall};
+    ghost use Rattle.disk_model.specs.MemDisk.{state_of, CountsDiskCall, IsUnchanged, NotesCall};
     ghost use Rattle.disk_model.specs.MemDisk.{NotesWrite};
 
     ghost state = { state_of };
@@ -165,7 +165,7 @@ impl Disk for MemDisk {
     fn read(&mut self, at: u32, buf: &mut [u8]) -> Result<(), DiskFault>
         requires running { (state_of self.old).stopped ≡ false }
         requires within { at + length buf.old ≤ SIZE }
-        ensures counts { CountsCall self.old self.new result }
+        ensures counts { CountsDiskCall self.old self.new result }
         ensures unchanged { IsUnchanged self.old self.new }
         ensures bytes { OnOk result (ForSome (state_of self.old).reads
             (λ image. buf.new ≡ range image at (length buf.old))) }
@@ -185,7 +185,7 @@ impl Disk for MemDisk {
     fn write(&mut self, at: u32, bytes: &[u8]) -> Result<(), DiskFault>
         requires running { (state_of self.old).stopped ≡ false }
         requires within { at + length bytes.now ≤ SIZE }
-        ensures counts { CountsCall self.old self.new result }
+        ensures counts { CountsDiskCall self.old self.new result }
         ensures notes { NotesWrite at bytes.now self.old self.new result }
         ensures bytes { OnOk result (ForSome (state_of self.old).reads
             (λ image. (state_of self.new).reads ≡ Some (overlay image at bytes.now))) }
@@ -210,7 +210,7 @@ impl Disk for MemDisk {
 
     fn sync(&mut self) -> Result<(), DiskFault>
         requires running { (state_of self.old).stopped ≡ false }
-        ensures counts { CountsCall self.old self.new result }
+        ensures counts { CountsDiskCall self.old self.new result }
         ensures notes { NotesCall Call.Sync self.old self.new result }
         ensures kept { OnOk result ((state_of self.new).reads ≡ (state_of self.old).reads) }
         ensures settled { OnOk result (IsSettled (state_of self.new)) }
@@ -222,7 +222,7 @@ impl Disk for MemDisk {
     }
 
     fn restart(&mut self) -> Result<(), DiskFault>
-        ensures counts { CountsCall self.old self.new result }
+        ensures counts { CountsDiskCall self.old self.new result }
         ensures notes { NotesCall Call.Restart self.old self.new result }
         ensures settled { OnOk result (IsSettled (state_of self.new)) }
         ensures elapses { Elapses (state_of self.old) (state_of self.new)
@@ -233,7 +233,7 @@ impl Disk for MemDisk {
     }
 }
 
-// Bytes past the end are zero.
+/// Bytes past the end are zero.
 fn copy_out(bytes: &[u8], at: usize, buf: &mut [u8])
     requires { at + length buf.old ≤ SIZE }
     ensures { buf.new ≡ range (image_of bytes.now) at (length buf.old) }
@@ -244,7 +244,7 @@ fn copy_out(bytes: &[u8], at: usize, buf: &mut [u8])
     buf[..count].copy_from_slice(&bytes[begin..begin + count]);
 }
 
-// Keeps a note of a write, and makes it where it is to be done.
+/// Keeps a note of a write, and makes it where it is to be done.
 fn note_write(
     alloc: Global,
     notes: &mut Items<Note>,
@@ -284,7 +284,7 @@ fn overwrite(to: &mut Vec<u8>, at: usize, bytes: &[u8]) -> Result<(), AllocError
     Ok(())
 }
 
-// Zeros come after the end, as they are read there.
+/// Zeros come after the end, as they are read there.
 fn lengthen(to: &mut Vec<u8>, len: usize) -> Result<(), AllocError>
     ensures len { OnOk result (len ≤ length to.new.items) }
     ensures same { OnOk result

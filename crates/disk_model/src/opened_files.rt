@@ -4,12 +4,12 @@ use std::fs::{File, Metadata};
 use std::io::{self, ErrorKind};
 use std::os::unix::fs::MetadataExt;
 
-// The files that can be told apart: one for each unit that a command may use.
+/// The files that can be told apart: one for each unit that a command may use.
 const MOST: usize = 8;
 
 /// The files that the disks of one program have opened, at most eight, each known by its device and
-/// its inode. So a file that two of its disks would share, by a link of either kind, is found before
-/// the second waits for the lock of the first.
+/// its inode. So a file that two of its disks would share, by a link of either kind, is found
+/// before the second waits for the lock of the first.
 #[derive(Drop)]
 pub struct OpenedFiles {
     files: [Cell<Option<FileId>>; MOST],

@@ -4,12 +4,12 @@ use Rattle.std.specs.Prelude.{is_some}
 use Rattle.std.proofs.Math.Seq.{split_at}
 use Rattle.std.proofs.lemmas.List.{length-map, length-take-le, map-append}
 use Rattle.disk_layout.specs.Entries.{SaysLoad, SaysLoads, typed_loads}
-use Rattle.disk_layout.specs.EntriesLaws.{all_are_typed, one_type_tells}
+use Rattle.disk_layout.proofs.EntriesLemmas.{all_are_typed, one_type_tells}
 use Rattle.disk_layout.specs.Manifest.{FitsALayout, LoadEntry, entry_view, manifest_view}
 use Rattle.disk_layout.specs.declared.manifest.ManifestLoad.{ManifestLoad}
 use Rattle.bank_store.specs.Known.{KnowsActive}
-use Rattle.bank_store.specs.KnownLaws.{can_keep}
-use Rattle.bank_store.specs.Store.{IsKept, SameActive}
+use Rattle.bank_store.proofs.KnownLemmas.{can_keep}
+use Rattle.bank_store.specs.Store.{IsKeptLoad, SameActive}
 use Rattle.bank_store.specs.declared.store.Store.{Store}
 use Rattle.recovery.specs.Surveys.{IsSurveyInRange}
 use Rattle.recovery.specs.declared.surveying.Surveyed.{Surveyed}
@@ -38,13 +38,13 @@ load_is_said bytes loads before behind load number parts at typed fits says =
 
 -- the store of a survey can keep it
 pub is_kept : (surveyed : Surveyed) (before behind : List LoadEntry) (load : LoadEntry) (number : ℕ) → manifest_view surveyed.manifest ≡ before ++ load ∷ behind → length before ≡ number
-    → load.type_id ≢ None → IsSurveyInRange surveyed → IsKept surveyed.store (number + 1)
+    → load.type_id ≢ None → IsSurveyInRange surveyed → IsKeptLoad surveyed.store (number + 1)
 is_kept surveyed before behind load number parts at typed found =
     let knows : KnowsActive surveyed.store (manifest_view surveyed.manifest) = record { fits = found.0.manifest; known = found.2; within = omega (arith, found.0.within, found.1) } in
     (can_keep surveyed.store before behind load (number + 1) (omega (arith, at)) (subst (λ (l : List LoadEntry). KnowsActive surveyed.store l) parts knows) typed).0
 
 -- as long as the same is active
-pub kept_on : (old new : Store) (number : ℕ) → SameActive old new → IsKept old number → IsKept new number
+pub kept_on : (old new : Store) (number : ℕ) → SameActive old new → IsKeptLoad old number → IsKeptLoad new number
 kept_on old new number same is = record {
   before = is.before;
   kept = is.kept;

@@ -1,4 +1,5 @@
-//! Tests of the disk: what a power loss leaves, how it is formatted and installed on, listed and recovered.
+//! Tests of the disk: what a power loss leaves, how it is formatted and installed on, listed and
+//! recovered.
 #![tactic(auto)]
 
 #[cfg(test)]

@@ -6,5 +6,3 @@ pub mod Logs
 pub mod Lines
 pub mod Scripts
 pub mod Following
-pub mod PostLaws
-pub mod FollowingLaws

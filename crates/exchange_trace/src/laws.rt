@@ -5,7 +5,7 @@ ghost use Rattle.std.specs.Prelude.{codes, None, Ok, Err};
 ghost use Rattle.std.specs.List.{Contains, range_with_len};
 ghost use Rattle.std.specs.List.Sorted.{IsStrictlyIncreasing};
 ghost use Rattle.exchange_trace.specs.declared.trace.Side.{Side};
-ghost use Rattle.exchange_trace.specs.Happenings.{DatagramView, HappeningView, Ended};
+ghost use Rattle.exchange_trace.specs.Happenings.{HappeningView, Ended};
 ghost use Rattle.exchange_trace.specs.Following.{FollowsScript, Plan, Scene, next_turn, plan_of};
 ghost use Rattle.exchange_trace.specs.declared.fault.ScriptFault.TheVariants as faults;
 ghost use Rattle.exchange_trace.specs.declared.trace.Side.TheVariants as sides;
@@ -17,7 +17,7 @@ ghost use Rattle.exchange_trace.specs.Posts.{posted_in, undelivered};
 ghost use Rattle.exchange_trace.specs.Scripts.{lines, script_said};
 ghost use Rattle.exchange_trace.specs.Steps.{Step};
 
-/// Which datagrams are undelivered, and how that changes. `specs/PostLaws.antt` says the same to
+/// Which datagrams are undelivered, and how that changes. `proofs/PostLemmas.antt` says the same to
 /// proofs.
 pub fn undelivered_datagrams()
     // Exactly those that were posted, and neither delivered nor lost, in ascending order.

@@ -7,10 +7,10 @@ use Rattle.field_grammar.specs.Cursor.{Cursor, cursor_at}
 use Rattle.field_grammar.specs.Grammar.{Grammar, IsBytes, read}
 use Rattle.field_grammar.specs.Spelling.{IsSpelledBy}
 use Rattle.field_grammar.specs.Fields.{number, raw, number_bytes, number_fields, pad, pad_bytes, padded, padded_fields, padded_text, short, short_fields, short_text}
-use Rattle.field_grammar.specs.StepLaws.{advanced-cursor_at, IsBytes-drop}
-use Rattle.field_grammar.specs.GrammarLaws.{what_is_read_follows}
-use Rattle.field_grammar.specs.NumberLaws.{IsWide, wide1, wide2, wide4, wide8, spelled-number}
-use Rattle.field_grammar.specs.TextLaws.{spelled-pad, spelled-padded, spelled-short, IsPaddedText, IsShortText, concat_number_fields, concat_padded_fields, concat_short_fields}
+use Rattle.field_grammar.proofs.StepLemmas.{advanced-cursor_at, IsBytes-drop}
+use Rattle.field_grammar.proofs.GrammarLemmas.{what_is_read_follows}
+use Rattle.field_grammar.proofs.NumberLemmas.{IsWide, wide1, wide2, wide4, wide8, spelled-number}
+use Rattle.field_grammar.proofs.TextLemmas.{spelled-pad, spelled-padded, spelled-short, IsPaddedText, IsShortText, concat_number_fields, concat_padded_fields, concat_short_fields}
 use Rattle.field_codec.specs.Reader.{Passes, PassesAt}
 
 -- bytes that fit are read

@@ -10,7 +10,7 @@ use Rattle.field_grammar.specs.Grammar.{Grammar, read, check, give, ◌>>=◌, �
 use Rattle.field_grammar.specs.Fields.{number, number_in, raw, pad, padded_parts, padded, short_parts, short, text_fault}
 use Rattle.field_grammar.specs.declared.fault.FieldFault.{FieldFault}
 use Rattle.field_grammar.specs.declared.fault.FieldFault.TheVariants.{Short, BadPad}
-use Rattle.field_grammar.specs.StepLaws.{then_ok, then_err, guard_ok, guard_err, renamed_err, said}
+use Rattle.field_grammar.proofs.StepLemmas.{then_ok, then_err, guard_ok, guard_err, renamed_err, said}
 use Rattle.field_codec.specs.Reader.{IsShort, IsBadPad, IsPadFault, IsPaddedFault, short_size, padded_size}
 
 -- ---- one field

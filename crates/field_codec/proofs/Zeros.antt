@@ -9,7 +9,7 @@ use Rattle.std.proofs.lemmas.List.Quantifiers.{position-Some}
 use Rattle.field_grammar.specs.Cursor.{Cursor, cursor_at}
 use Rattle.field_grammar.specs.Grammar.{IsBytes, HasNoZero, zero_ended, before_zero, zero_ended_at, read}
 use Rattle.field_grammar.specs.Spelling.{IsSpelledBy}
-use Rattle.field_grammar.specs.StepLaws.{advanced-cursor_at}
+use Rattle.field_grammar.proofs.StepLemmas.{advanced-cursor_at}
 use Rattle.field_grammar.specs.declared.fault.FieldFault.TheVariants.{Short}
 use Rattle.field_codec.specs.Reader.{zero_ended_text, PassesAt, IsUnended}
 use Rattle.field_codec.proofs.Passing.{passes, fit_at}

@@ -39,7 +39,7 @@
 //!
 //! The whole is a function that `Gives Memory view result (answer texts bytes.now)`, and the public
 //! call's four clauses follow from that by `found`, `only`, `refused` and `faulty` of
-//! `field_grammar`'s `specs/DecoderLaws.antt`, one line each.
+//! `field_grammar`'s `proofs/DecoderLemmas.antt`, one line each.
 #![tactic(auto)]
 
 mod reader;

@@ -1,7 +1,7 @@
-ghost use Rattle.std.specs.Prelude.{◌≡◌, ◌+◌, ◌==◌, ◌≤◌, ◌++◌, ◌%◌, ◌⊎◌, length, drop, IfOk, IfErr};
+ghost use Rattle.std.specs.Prelude.{◌≡◌, ◌+◌, ◌==◌, ◌≤◌, ◌%◌, length, drop, IfOk, IfErr};
 ghost use Rattle.std.specs.Prelude.{OnOk, OnErr};
 ghost use Rattle.std.specs.List.{position};
-ghost use Rattle.field_grammar.specs.Cursor.{cursor_at, advanced};
+ghost use Rattle.field_grammar.specs.Cursor.{cursor_at};
 ghost use Rattle.field_grammar.specs.Answers.{Reads, ReadsAt};
 ghost use Rattle.field_grammar.specs.Fields.{number, number_bytes, raw, pad, padded, padded_parts};
 ghost use Rattle.field_grammar.specs.Fields.{short, short_parts, text_fault, short_text};
@@ -292,7 +292,7 @@ fn pad_at(bytes: &[u8], offset: usize, size: usize) -> Result<((), usize), Field
     Ok(((), end))
 }
 
-// A fault of a text's part, as one of the text that begins at this offset.
+/// A fault of a text's part, as one of the text that begins at this offset.
 fn text_fault(fault: FieldFault, offset: usize) -> FieldFault
     ensures { result ≡ text_fault offset fault }
 {

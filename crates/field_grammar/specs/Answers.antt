@@ -24,6 +24,6 @@ Decodes memory view g old (Ok x) new = read g old ≡ Ok (view x, new)
 Decodes memory view g old (Err e) new = (e ≡ memory) ⊎ (read g old ≡ Err e)
 
 -- The answer, seen by view, is this one, unless it was out of memory.
-abbrev pub Gives : {F T X : Type 0} → F → (T → X) → Result T F → Result X F → Type 0
-Gives memory view (Ok x) r = r ≡ Ok (view x)
-Gives memory view (Err e) r = (e ≡ memory) ⊎ (r ≡ Err e)
+abbrev pub AnswersAs : {F T X : Type 0} → F → (T → X) → Result T F → Result X F → Type 0
+AnswersAs memory view (Ok x) r = r ≡ Ok (view x)
+AnswersAs memory view (Err e) r = (e ≡ memory) ⊎ (r ≡ Err e)

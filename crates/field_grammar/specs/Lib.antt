@@ -4,17 +4,3 @@ pub mod Answers
 pub mod Spelling
 pub mod Fields
 pub mod OneSpelling
-pub mod StepLaws
-pub mod GrammarLaws
-pub mod MoveLaws
-pub mod ExactLaws
-pub mod CombinedLaws
-pub mod PlacedLaws
-pub mod ListedLaws
-pub mod NumberLaws
-pub mod TextLaws
-pub mod JudgedLaws
-pub mod LoopLaws
-pub mod DecoderLaws
-pub mod SectionLaws
-pub mod WrittenLaws

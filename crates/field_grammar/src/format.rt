@@ -1,5 +1,4 @@
-ghost use Rattle.std.specs.Prelude.{◌≡◌, ◌++◌, ℕ, List, length};
-ghost use Rattle.std.specs.List.{concat};
+ghost use Rattle.std.specs.Prelude.{◌≡◌, ℕ, List, length};
 ghost use Rattle.field_grammar.specs.Cursor.{Cursor, at, past};
 ghost use Rattle.field_grammar.specs.Grammar.{IsBytes, EndsTheBytes, IsDecided, IsDecidedAtStart};
 ghost use Rattle.field_grammar.specs.Grammar.{Follows, Stops, Took, Stopped, MovesOn, read};

@@ -12,7 +12,7 @@ use Rattle.tftp_link.specs.Negotiation.{fits_said, may_grant}
 use Rattle.tftp_link.specs.Receiver.{Receiver, data_answer, is_last_block, is_next_block, receiver_first, receiver_oack_answer, taken_answer, were_granted}
 use Rattle.tftp_link.specs.Sender.{Sender, ack_answer, last_of, sender_oack_answer}
 use Rattle.transfer_end.specs.Transfers.{LinkEnd, Reads, Receives, Role, Sends, ServesRead, ServesWrite, Writes, begin_of, end_answer, end_moved, end_packet}
-use Rattle.transfer_completion.specs.BlockLaws.{eq_false}
+use Rattle.transfer_completion.proofs.BlockLemmas.{eq_false}
 use Rattle.finish_ends.proofs.Weights.{IsNumbered, is_reply}
 
 -- ---- the blocks that are left

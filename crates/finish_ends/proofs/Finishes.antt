@@ -14,18 +14,18 @@ use Rattle.transfer_end.specs.Packets.{packet_in}
 use Rattle.transfer_end.specs.Readings.{Reading}
 use Rattle.transfer_end.specs.Transfers.{LinkEnd, Receives, Sends}
 use Rattle.transfer_end.specs.Views.{EndView, TransferView}
-use Rattle.session_rules.specs.BufferLaws.{SumsJoin}
+use Rattle.session_rules.proofs.BufferLemmas.{SumsJoin}
 use Rattle.session_rules.specs.Loader.{LoaderView, loader_after, loader_posts}
 use Rattle.session_rules.specs.LoaderLog.{SessionLog, loader_reading, loader_view, session_view as loader_session}
 use Rattle.session_rules.specs.Target.{TargetView, target_after, target_posts}
-use Rattle.session_rules.specs.TargetLaws.{target_follows}
+use Rattle.session_rules.proofs.TargetLemmas.{target_follows}
 use Rattle.session_rules.specs.TargetLog.{TargetReading, TargetSessionLog, session_view as target_session, target_view}
-use Rattle.session_rules.specs.ViewLaws.{loaders_follow}
-use Rattle.replay_rules.specs.BothEnds.{Is_down, Is_up, Setting, TargetState, loader_at, noted, reached, target_at, waiting, waits_in}
+use Rattle.session_rules.proofs.ViewLemmas.{loaders_follow}
+use Rattle.replay_rules.specs.BothEnds.{Is_down, Is_up, Setting, TargetStanding, loader_at, noted, reached, target_at, waiting, waits_in}
 use Rattle.replay_rules.specs.Changes.{AllCarryBytes}
 use Rattle.replay_rules.specs.Due.{AllDue, AllNoted, MayBeNoted, MayGoDown, due, due_of_loader, due_of_target, goes_down, is_up}
 use Rattle.replay_rules.specs.Ties.{kept_by}
-use Rattle.replay_rules.specs.TieLaws.{HasLive, target_is_live}
+use Rattle.replay_rules.proofs.TieLemmas.{HasLive, target_is_live}
 use Rattle.finish_ends.specs.Finishes.{AllOfFinish, FinishEnds, IsOfFinish, delivers, most_of_finish, ticks}
 use Rattle.finish_ends.proofs.Ends.{blocks_left, unanswered}
 use Rattle.finish_ends.proofs.LoaderFalls.{loader_gets, loader_left, loader_ticks}
@@ -46,7 +46,7 @@ left_after set steps = loader_left (loader_view (loader_at set steps)) + kept_le
 -- ---- the target at what reaches it
 
 module _ (joins : SumsJoin) (set : Setting) where
-  target_any : (state : TargetState) (notes : List Note) (e : Event) (w : ℕ) → MayGoDown (is_up state) notes → HasLive state → 0 < w + kept_left (kept_by state)
+  target_any : (state : TargetStanding) (notes : List Note) (e : Event) (w : ℕ) → MayGoDown (is_up state) notes → HasLive state → 0 < w + kept_left (kept_by state)
       → ((r : TargetReading) → state ≡ Is_up r → total (target_posts set.accepts (target_view r) e) + target_left (target_after set.accepts (target_view r) e) < w + target_left (target_view r))
       → total (cond (goes_down notes) [] (due_of_target set state (Some e))) + kept_left (kept_by (noted notes state (reached set (Some e) state))) < w + kept_left (kept_by state)
   target_any (Is_up r) notes e w (inl none) live some falls =
@@ -59,7 +59,7 @@ module _ (joins : SumsJoin) (set : Setting) where
       subst (λ (ns : List Note). total (cond (goes_down ns) [] (due_of_target set (Is_down active interrupted) (Some e))) + kept_left (kept_by (noted ns (Is_down active interrupted) (reached set (Some e) (Is_down active interrupted)))) < w + kept_left (kept_by (Is_down active interrupted))) (sym none)
       some
 
-target_none : (set : Setting) (state : TargetState) (notes : List Note) → MayGoDown (is_up state) notes
+target_none : (set : Setting) (state : TargetStanding) (notes : List Note) → MayGoDown (is_up state) notes
     → total (cond (goes_down notes) [] (due_of_target set state None)) + kept_left (kept_by (noted notes state (reached set None state))) ≤ kept_left (kept_by state)
 target_none set (Is_up r) notes (inl none) =
     subst (λ (ns : List Note). total (cond (goes_down ns) [] (due_of_target set (Is_up r) None)) + kept_left (kept_by (noted ns (Is_up r) (reached set None (Is_up r)))) ≤ kept_left (kept_by (Is_up r))) (sym none) (omega arith)
@@ -118,9 +118,9 @@ module _ (joins : SumsJoin) (set : Setting) (base : List Step) (notes : List Not
   ticked_so sides.Loader waits = loader_alone Ticks 0 (loader_ticks (loader_view (loader_at set base)) set.media (loader_so (loader_at set base).end (loader_at set base).live ∙ waits))
   ticked_so sides.Target waits =
       target_alone Ticks 0 (some (target_at set base) waits)
-      (λ r e. target_ticks (target_view r) set.accepts (target_so r r.live ∙ subst (λ (state : TargetState). waits_in state ≡ true) e waits))
+      (λ r e. target_ticks (target_view r) set.accepts (target_so r r.live ∙ subst (λ (state : TargetStanding). waits_in state ≡ true) e waits))
     where
-      some : (state : TargetState) → waits_in state ≡ true → 0 < 0 + kept_left (kept_by state)
+      some : (state : TargetStanding) → waits_in state ≡ true → 0 < 0 + kept_left (kept_by state)
       some (Is_up r) e = waits_some (is_some (target_view r).live) (target_view r).end.retries (energy_of (target_view r).end) (target_so r r.live ∙ e)
       some (Is_down active interrupted) e = absurd cc
 

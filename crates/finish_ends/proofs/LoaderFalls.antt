@@ -9,7 +9,7 @@ use Rattle.tftp_packet.specs.Packets.{Ack, Data, Error, Oack, PacketView, Rrq, W
 use Rattle.tftp_link.specs.Answers.{Again, Answer, Completes, Dropped, Fails, Grants, Proceeds, TakesBlock, TakesLast}
 use Rattle.transfer_end.specs.Moves.{Refuses, Repeats, Stops, all_posts, views_after}
 use Rattle.transfer_end.specs.Packets.{has_port, heard_answer, is_busy, is_fresh, may_repeat, packet_in, transfer_moves}
-use Rattle.transfer_end.specs.PlacedLaws.{heard_moves_port}
+use Rattle.transfer_end.proofs.PlacedLemmas.{heard_moves_port}
 use Rattle.transfer_end.specs.Transfers.{Role, ServesRead, ServesWrite}
 use Rattle.transfer_end.specs.Views.{EndView}
 use Rattle.session_rules.specs.declared.outcome.FileKind.{FileKind}
@@ -18,7 +18,7 @@ use Rattle.session_rules.specs.declared.outcome.Outcome.TheVariants.{GaveUp, Pee
 use Rattle.session_rules.specs.Buffers.{buffered_more}
 use Rattle.session_rules.specs.FileNames.{file_name}
 use Rattle.session_rules.specs.Loader.{Advances, Begins, Begins_over, Continues, Ends, LoaderChange, LoaderDecision, LoaderSession, LoaderView, Start, advanced, answer_decision, continued, doing, ending, got_decision, loader_after, loader_changed, loader_decision, loader_posts, next_decision, nothing, read_decision, request_decision, row_request, session_decision, take_request, tick_decision, turn_decision, write_decision}
-use Rattle.session_rules.specs.LoaderRows.{Comes_to, Goes_on, Turn, file_turn, kind_taken, row_after, serves_files}
+use Rattle.session_rules.specs.LoaderRows.{Comes_to, Goes_on, RowTurn, file_turn, kind_taken, row_after, serves_files}
 use Rattle.session_rules.specs.MediaFiles.{Media}
 use Rattle.finish_ends.proofs.Moves.{Falls, Heard, gives_up_falls, heard_falls, left, refuses_heard, repeats_falls, serves_falls, stays, stop_falls, then_asks, then_stops, transfer_heard}
 use Rattle.finish_ends.proofs.Weights.{IsNumbered, most_weight, read_numbered, some_weight, total, weight_of}
@@ -84,7 +84,7 @@ module _ (v : LoaderView) where
           (λ port. then_asks sides.Loader w v.end (is_some v.live) (is_some (advanced v.live)) (transfer_moves v.end from to p) role (most_weight (Some p)) port (heard_moves_port sides.Loader v.end from to p) heard)
           (heard_stops PortsSpent more)
 
-      turn_falls : (s : LoaderSession) (more : List ℕ) (turn : Turn) → LoaderFalls w (turn_decision v.end s (transfer_moves v.end from to p) more turn)
+      turn_falls : (s : LoaderSession) (more : List ℕ) (turn : RowTurn) → LoaderFalls w (turn_decision v.end s (transfer_moves v.end from to p) more turn)
       turn_falls s more Goes_on = next_falls more (row_request v.end.asks_size s.start (row_after s.row))
       turn_falls s more (Comes_to outcome) = heard_stops outcome more
 

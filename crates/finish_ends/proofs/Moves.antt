@@ -7,7 +7,7 @@ use Rattle.tftp_packet.specs.Packets.{Ack, PacketView}
 use Rattle.tftp_link.specs.Answers.{Again, Answer, Completes, Dropped, Fails, Grants, Proceeds, TakesBlock, TakesLast}
 use Rattle.transfer_end.specs.Moves.{Asks, Hears, Move, Recalls, Refuses, Repeats, Serves, Stops, all_posts, datagram, heard_post, kept_post, last_post, live_post, posts_of, recalled_post, view_after, view_answered, view_heard, views_after}
 use Rattle.transfer_end.specs.Packets.{belongs, has_port, may_repeat, packet_in, transfer_moves}
-use Rattle.transfer_end.specs.PlacedLaws.{posts_more}
+use Rattle.transfer_end.proofs.PlacedLemmas.{posts_more}
 use Rattle.transfer_end.specs.Transfers.{LinkEnd, Receives, Role, Sends, begin_of, end_answer, end_moved, end_packet, first_packet}
 use Rattle.transfer_end.specs.Views.{EndView, TransferView}
 use Rattle.finish_ends.proofs.Ends.{Uses, begin_blocks, blocks_left, uses}

@@ -6,7 +6,7 @@ use Rattle.exchange_trace.specs.Happenings.{HappeningView}
 use Rattle.exchange_trace.specs.Lines.{Line}
 use Rattle.exchange_trace.specs.Steps.{Step}
 use Rattle.replay_rules.specs.BothEnds.{Setting}
-use Rattle.replay_rules.specs.Runs.{Follows, plan_at, scene_at}
+use Rattle.replay_rules.specs.Runs.{TraceFollows, plan_at, scene_at}
 use Rattle.finish_ends.specs.Finishes.{AllOfFinish, FinishEnds, IsOfFinish}
 use Rattle.finish_ends.specs.Scripts.{FinishPassesOn, PassesOn}
 use Rattle.finish_ends.proofs.Given.{Gives, finish_gives, gives, is_done}
@@ -23,7 +23,7 @@ module _ (set : Setting) (script : List Line) (steps : List Step) where
   turn_there more g o e =
       ap (λ (p : Plan). next_turn (scene_at set (more ++ steps)) p) g.plan ∙ ap (λ (x : Option Turn). or_else x (from_lines (scene_at set (more ++ steps)) (plan_at set script steps).lines)) e
 
-  walk : (more : List Step) (first : Side) → (plan_at set script steps).rest ≡ Finishing first → Follows set script (more ++ steps) → PassesOn set script more steps ⊎ GoesOn more
+  walk : (more : List Step) (first : Side) → (plan_at set script steps).rest ≡ Finishing first → TraceFollows set script (more ++ steps) → PassesOn set script more steps ⊎ GoesOn more
   walk [] first rest follows = inr (record { turned = first; plan = ap (λ (r : Rest). record { rest = r; lines = (plan_at set script steps).lines }) rest; gives = tt })
   walk (s ∷ more) first rest follows = by (walk more first rest follows.1)
     where

@@ -4,20 +4,20 @@ use Rattle.std.specs.List.{AllByRecursion}
 use Rattle.exchange_trace.specs.declared.trace.Side.{Side}
 use Rattle.exchange_trace.specs.declared.trace.Side.TheVariants as sides
 use Rattle.exchange_trace.specs.Following.{Deliveries, Finishing, Nothing_left, Plan, Rest, Turn, begins, delivered_next, delivery, from_lines, goes_on, least_delivery, loss, next_turn, once, or_else, plan_of}
-use Rattle.exchange_trace.specs.FollowingLaws.{end_is_last}
+use Rattle.exchange_trace.proofs.FollowingLemmas.{end_is_last}
 use Rattle.exchange_trace.specs.Happenings.{Ended, HappeningView, Info_started, Injected, Power_cut, Booted, Size_told, Ticked, Upload_started}
 use Rattle.exchange_trace.specs.Lines.{Blksize, Boot, Finish, Give, Info, Inject, Line, Lose, Next, Power, Tick, Upload}
 use Rattle.exchange_trace.specs.Posts.{posted_in}
 use Rattle.exchange_trace.specs.Steps.{Step}
-use Rattle.session_rules.specs.BufferLaws.{SumsJoin}
+use Rattle.session_rules.proofs.BufferLemmas.{SumsJoin}
 use Rattle.replay_rules.specs.BothEnds.{Setting}
 use Rattle.replay_rules.specs.Changes.{AllCarryBytes}
 use Rattle.replay_rules.specs.Due.{AllDue, AllNoted}
-use Rattle.replay_rules.specs.PlacedTraceLaws.{due_is_two_at_most}
+use Rattle.replay_rules.proofs.PlacedTraceLemmas.{due_is_two_at_most}
 use Rattle.replay_rules.specs.Promises.{EndsOnce, IsNoEnd}
-use Rattle.replay_rules.specs.Runs.{Follows, plan_at, scene_at}
+use Rattle.replay_rules.specs.Runs.{TraceFollows, plan_at, scene_at}
 use Rattle.finish_ends.specs.Finishes.{IsOfFinish, most_of_finish}
-use Rattle.finish_ends.specs.Scripts.{HasEnded, ScriptsEnd, TracesAreBounded, most_of_lines, most_with}
+use Rattle.finish_ends.specs.Scripts.{RunHasEnded, ScriptsEnd, TracesAreBounded, most_of_lines, most_with}
 use Rattle.finish_ends.proofs.Finishes.{left_after, most_left_after, step_falls}
 use Rattle.finish_ends.proofs.Given.{Gives, finish_gives, gives, is_done}
 use Rattle.finish_ends.proofs.Undelivered.{weight_of_posted}
@@ -151,16 +151,16 @@ posted_most : (steps : List Step) → AllByRecursion (λ (s : Step). length s.po
 posted_most [] two = omega arith
 posted_most (s ∷ earlier) two = let rest = posted_most earlier two.1 in let sum = length-append (posted_in earlier) s.posts in let now = two.0 in omega (arith, rest, sum, now)
 
-ended_again : (set : Setting) (script : List Line) (s : Step) (earlier : List Step) → Follows set script (s ∷ earlier) → HasEnded earlier → s.given ≡ Ended
+ended_again : (set : Setting) (script : List Line) (s : Step) (earlier : List Step) → TraceFollows set script (s ∷ earlier) → RunHasEnded earlier → s.given ≡ Ended
 ended_again set script s [] follows ended = absurd ended
 ended_again set script s (e ∷ earlier) follows ended =
     let plan : plan_at set script (e ∷ earlier) ≡ plan_of [] = end_is_last (scene_at set earlier) (plan_at set script earlier) (sym follows.1.0 ∙ ended) in
     follows.0 ∙ ap (λ (p : Plan). (next_turn (scene_at set (e ∷ earlier)) p).given) plan
 
 abbrev EndsOrPasses : Setting → List Line → List Step → Type 0
-EndsOrPasses set script steps = HasEnded steps ⊎ (plan_most set steps (plan_at set script steps) ≤ most_of_lines 0 script)
+EndsOrPasses set script steps = RunHasEnded steps ⊎ (plan_most set steps (plan_at set script steps) ≤ most_of_lines 0 script)
 
-ends_or_passes : SumsJoin → (set : Setting) (script : List Line) (steps : List Step) → Follows set script steps → AllDue set steps → AllNoted set steps → AllCarryBytes steps → EndsOrPasses set script steps
+ends_or_passes : SumsJoin → (set : Setting) (script : List Line) (steps : List Step) → TraceFollows set script steps → AllDue set steps → AllNoted set steps → AllCarryBytes steps → EndsOrPasses set script steps
 ends_or_passes joins set script [] follows is_due is_noted carry = inr (lines_more script (0 + 0) 0 (omega arith))
 ends_or_passes joins set script (s ∷ earlier) follows is_due is_noted carry = before (ends_or_passes joins set script earlier follows.1 is_due.1 is_noted.1 carry.1)
   where
@@ -181,13 +181,13 @@ ends_or_passes joins set script (s ∷ earlier) follows is_due is_noted carry = 
 pub scripts_end : SumsJoin → ScriptsEnd
 scripts_end joins set script steps follows run long = by (ends_or_passes joins set script steps follows run.due run.noted run.carries)
   where
-    by : EndsOrPasses set script steps → HasEnded steps
+    by : EndsOrPasses set script steps → RunHasEnded steps
     by (inl ended) = ended
     by (inr le) = absurd (let least = lines_at_least (plan_at set script steps).lines (length steps + rest_most set steps (plan_at set script steps).rest) in omega (arith, le, least, long))
 
 -- ---- a whole trace
 
-not_ended : (s : Step) (earlier : List Step) → EndsOnce (s ∷ earlier) → HasEnded earlier → ⊥
+not_ended : (s : Step) (earlier : List Step) → EndsOnce (s ∷ earlier) → RunHasEnded earlier → ⊥
 not_ended s [] ends ended = ended
 not_ended s (e ∷ earlier) ends ended = subst (λ (h : HappeningView). IsNoEnd h) ended ends.1.0
 

@@ -9,7 +9,7 @@ use Rattle.tftp_packet.specs.Packets.{Ack, Data, Error, Oack, PacketView, Rrq, W
 use Rattle.tftp_link.specs.Answers.{Again, Answer, Completes, Dropped, Fails, Grants, Proceeds, TakesBlock, TakesLast}
 use Rattle.transfer_end.specs.Moves.{Asks, Refuses, Repeats, Stops, all_posts, views_after}
 use Rattle.transfer_end.specs.Packets.{has_port, heard_answer, is_busy, is_fresh, may_repeat, packet_in, transfer_moves}
-use Rattle.transfer_end.specs.PlacedLaws.{heard_moves_port}
+use Rattle.transfer_end.proofs.PlacedLemmas.{heard_moves_port}
 use Rattle.transfer_end.specs.Transfers.{Role, ServesRead, ServesWrite}
 use Rattle.transfer_end.specs.Views.{EndView}
 use Rattle.accept_rules.specs.Permissions.{Accepts}

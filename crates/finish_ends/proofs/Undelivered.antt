@@ -7,8 +7,8 @@ use Rattle.exchange_trace.specs.Happenings.{DatagramView, Delivered, HappeningVi
 use Rattle.exchange_trace.specs.Posts.{delivers, happenings_of, is_undelivered, loses, numbered, posted_in, undelivered_after, was_delivered, was_lost}
 use Rattle.exchange_trace.specs.Steps.{Step}
 use Rattle.replay_rules.specs.Changes.{AllCarryBytes, CarriesBytes}
-use Rattle.replay_rules.specs.PlacedTraceLaws.{all_append}
-use Rattle.transfer_completion.specs.BlockLaws.{eq_false, eq_true}
+use Rattle.replay_rules.proofs.PlacedTraceLemmas.{all_append}
+use Rattle.transfer_completion.proofs.BlockLemmas.{eq_false, eq_true}
 use Rattle.transfer_end.specs.Packets.{packet_in}
 use Rattle.finish_ends.proofs.Weights.{most_weight, total, weight}
 

@@ -6,7 +6,7 @@ use Rattle.exchange_trace.specs.Happenings.{DatagramView}
 use Rattle.tftp_packet.specs.Packets.{Ack, Data, Error, Oack, PacketSpells, PacketView, Rrq, Wrq}
 use Rattle.transfer_end.specs.Moves.{datagram}
 use Rattle.transfer_end.specs.Packets.{packet_in}
-use Rattle.transfer_end.specs.SentPacketLaws.{read_is_spelled, written_is_read}
+use Rattle.transfer_end.proofs.SentPacketLemmas.{read_is_spelled, written_is_read}
 
 -- an acknowledgement or an ERROR
 abbrev pub is_reply : Option PacketView → Bool

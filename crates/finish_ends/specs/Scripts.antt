@@ -9,7 +9,7 @@ use Rattle.exchange_trace.specs.Steps.{Step}
 use Rattle.replay_rules.specs.BothEnds.{Setting}
 use Rattle.replay_rules.specs.Changes.{AllCarryBytes}
 use Rattle.replay_rules.specs.Promises.{IsTrace}
-use Rattle.replay_rules.specs.Runs.{Follows, IsQuiet, plan_at, scene_at}
+use Rattle.replay_rules.specs.Runs.{TraceFollows, IsQuiet, plan_at, scene_at}
 use Rattle.finish_ends.specs.Finishes.{AllOfFinish, IsRun, most_of_finish}
 
 -- ---- a line `finish`
@@ -27,7 +27,7 @@ pub record PassesOn (set : Setting) (script : List Line) (more steps : List Step
 -- Each `finish` of a script passes on to the lines after it, in each run that follows the script, after no more happenings
 -- than a `finish` has.
 abbrev pub FinishPassesOn : Type 0
-FinishPassesOn = (set : Setting) (script : List Line) (steps more : List Step) (first : Side) → Follows set script (more ++ steps) → IsRun set (more ++ steps)
+FinishPassesOn = (set : Setting) (script : List Line) (steps more : List Step) (first : Side) → TraceFollows set script (more ++ steps) → IsRun set (more ++ steps)
     → (plan_at set script steps).rest ≡ Finishing first → most_of_finish + 2 * length (undelivered_after steps) < length more → PassesOn set script more steps
 
 -- ---- a whole script
@@ -44,16 +44,16 @@ most_of_lines before [] = before
 most_of_lines before (line ∷ lines) = most_of_lines (most_with before line) lines
 
 -- nothing happens any more
-abbrev pub HasEnded : List Step → Type 0
-HasEnded [] = ⊥
-HasEnded (s ∷ earlier) = s.given ≡ Ended
+abbrev pub RunHasEnded : List Step → Type 0
+RunHasEnded [] = ⊥
+RunHasEnded (s ∷ earlier) = s.given ≡ Ended
 
 -- Each script comes to its end, in each run that follows it, after no more happenings than its lines alone say.
 abbrev pub ScriptsEnd : Type 0
-ScriptsEnd = (set : Setting) (script : List Line) (steps : List Step) → Follows set script steps → IsRun set steps
-    → most_of_lines 0 script < length steps → HasEnded steps
+ScriptsEnd = (set : Setting) (script : List Line) (steps : List Step) → TraceFollows set script steps → IsRun set steps
+    → most_of_lines 0 script < length steps → RunHasEnded steps
 
 -- So the trace of a whole run has no more steps than that, and one for the end.
 abbrev pub TracesAreBounded : Type 0
-TracesAreBounded = (set : Setting) (script : List Line) (steps : List Step) → Follows set script steps → IsTrace set steps → AllCarryBytes steps
+TracesAreBounded = (set : Setting) (script : List Line) (steps : List Step) → TraceFollows set script steps → IsTrace set steps → AllCarryBytes steps
     → length steps ≤ most_of_lines 0 script + 1

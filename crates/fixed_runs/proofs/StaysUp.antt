@@ -9,19 +9,19 @@ use Rattle.exchange_trace.specs.Logs.{Event, event_for}
 use Rattle.exchange_trace.specs.Posts.{posted_in}
 use Rattle.exchange_trace.specs.Steps.{Boot_refused, Came_up, Note, Step, Went_down}
 use Rattle.session_rules.specs.TargetLog.{TargetReading}
-use Rattle.replay_rules.specs.BothEnds.{Is_down, Is_up, Setting, TargetState, changed, come_up, gone_down, noted, reached, settled, target_at}
+use Rattle.replay_rules.specs.BothEnds.{Is_down, Is_up, Setting, TargetStanding, changed, come_up, gone_down, noted, reached, settled, target_at}
 use Rattle.replay_rules.specs.Due.{IsBooted, MayBeNoted, MayGoDown, is_up}
 use Rattle.replay_rules.specs.Histories.{active_by, active_in}
 use Rattle.fixed_runs.specs.FixedRuns.{IsNoFailure, NeverFails, TellsActive, noted_then}
 
 -- ---- the target stays up
 
-came_up : (first_port sequence : ℕ) (before after : TargetState) → is_up (come_up first_port sequence (gone_down before after)) ≡ true
+came_up : (first_port sequence : ℕ) (before after : TargetStanding) → is_up (come_up first_port sequence (gone_down before after)) ≡ true
 came_up first_port sequence (Is_up r) (Is_up s) = refl
 came_up first_port sequence (Is_up r) (Is_down active interrupted) = refl
 came_up first_port sequence (Is_down active interrupted) after = refl
 
-noted_up : (notes : List Note) (before after : TargetState) → is_up after ≡ true → AllByRecursion IsNoFailure notes → is_up (noted notes before after) ≡ true
+noted_up : (notes : List Note) (before after : TargetStanding) → is_up after ≡ true → AllByRecursion IsNoFailure notes → is_up (noted notes before after) ≡ true
 noted_up [] before after up none = up
 noted_up (Went_down ∷ notes) before after up none = absurd none.0
 noted_up (Boot_refused fault ∷ notes) before after up none = absurd none.0
@@ -29,7 +29,7 @@ noted_up (Came_up first_port sequence ∷ notes) before after up none =
     let then_up = come_up first_port sequence (gone_down before after) in
     noted_up notes then_up then_up (came_up first_port sequence before after) none.1
 
-reached_up : (set : Setting) (e : Option Event) (state : TargetState) → is_up state ≡ true → is_up (reached set e state) ≡ true
+reached_up : (set : Setting) (e : Option Event) (state : TargetStanding) → is_up state ≡ true → is_up (reached set e state) ≡ true
 reached_up set None state up = up
 reached_up set (Some e) (Is_up r) up = refl
 reached_up set (Some e) (Is_down active interrupted) up = up
@@ -90,11 +90,11 @@ noted_so set r port posted (Info_started hw pos) notes may none told = none_note
 noted_so set r port posted (Upload_started hw pos parts) notes may none told = none_noted notes may none
 noted_so set r port posted Ended notes may none told = none_noted notes may none
 
-pub noted_is : (set : Setting) (state : TargetState) (port : ℕ) (posted : List DatagramView) (h : HappeningView) (notes : List Note) → is_up state ≡ true → MayBeNoted (is_up state) port h notes
+pub noted_is : (set : Setting) (state : TargetStanding) (port : ℕ) (posted : List DatagramView) (h : HappeningView) (notes : List Note) → is_up state ≡ true → MayBeNoted (is_up state) port h notes
     → AllByRecursion IsNoFailure notes → TellsActive (noted notes state (reached set (event_for sides.Target posted h) state)) notes → notes ≡ noted_then port (active_in state).sequence h
 noted_is set (Is_up r) port posted h notes up may none told = noted_so set r port posted h notes may none told
 noted_is set (Is_down active interrupted) port posted h notes up may none told = absurd cc
 
-pub active_is : (state : TargetState) (last : StandingView) → is_up state ≡ true → active_by state (Some last) ≡ last → last ≡ active_in state
+pub active_is : (state : TargetStanding) (last : StandingView) → is_up state ≡ true → active_by state (Some last) ≡ last → last ≡ active_in state
 active_is (Is_up r) last up is = sym is
 active_is (Is_down active interrupted) last up is = absurd cc

@@ -8,12 +8,12 @@ use Rattle.exchange_trace.specs.Happenings.{Booted, Ended, HappeningView}
 use Rattle.exchange_trace.specs.Lines.{Line}
 use Rattle.exchange_trace.specs.Posts.{first_port_after}
 use Rattle.exchange_trace.specs.Steps.{Came_up, Note, Step}
-use Rattle.replay_rules.specs.BothEnds.{Setting, TargetState, target_at}
+use Rattle.replay_rules.specs.BothEnds.{Setting, TargetStanding, target_at}
 use Rattle.replay_rules.specs.Changes.{AllCarryBytes}
 use Rattle.replay_rules.specs.Due.{AllDue, AllNoted, due, is_up}
 use Rattle.replay_rules.specs.Histories.{active_at, active_by, active_in}
 use Rattle.replay_rules.specs.Promises.{EndsOnce}
-use Rattle.replay_rules.specs.Runs.{Follows, plan_at, scene_at}
+use Rattle.replay_rules.specs.Runs.{TraceFollows, plan_at, scene_at}
 use Rattle.finish_ends.specs.Scripts.{most_of_lines}
 
 -- ---- premises
@@ -28,7 +28,7 @@ abbrev pub NeverFails : List Step → Type 0
 NeverFails steps = AllByRecursion (λ (s : Step). AllByRecursion IsNoFailure s.notes) steps
 
 -- a target that comes up tells the sequence number of what is active then
-abbrev pub TellsActive : TargetState → List Note → Type 0
+abbrev pub TellsActive : TargetStanding → List Note → Type 0
 TellsActive state (Came_up first_port sequence ∷ []) = sequence ≡ (active_in state).sequence
 TellsActive state notes = ⊤
 
@@ -40,7 +40,7 @@ BootsTellActive set (s ∷ earlier) = TellsActive (target_at set (s ∷ earlier)
 -- says what is posted. At which call a disk fails or loses power nothing here says: so the target may not go down. Of a boot
 -- the first port is the one that may be noted, and the sequence number that of what is active.
 pub record IsSteadyRun (set : Setting) (script : List Line) (steps : List Step) : Type 0 where
-  pub follows : Follows set script steps
+  pub follows : TraceFollows set script steps
   pub due : AllDue set steps
   pub noted : AllNoted set steps
   pub up : NeverFails steps

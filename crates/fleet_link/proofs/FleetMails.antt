@@ -11,7 +11,7 @@ use Rattle.fleet_trace.specs.FleetPosts.{PostPlace, UnitPost, happenings_of_unit
 use Rattle.fleet_trace.proofs.UnitParts.{posts_join}
 use Rattle.link_net.specs.Mail.{MailView, NamesPosted, with_given}
 use Rattle.fleet_link.specs.declared.fleet_mail.Place.{Place}
-use Rattle.fleet_link.specs.FleetMail.{FleetMailView, GivesAt, IsPlaced, KeepsFleetMail, PostsAt, is_undelivered_in, mail_of, place_view}
+use Rattle.fleet_link.specs.FleetMail.{FleetMailView, GivesAt, IsPlaceOfPost, KeepsFleetMail, PostsAt, is_undelivered_in, mail_of, place_view}
 
 -- ---- lists
 
@@ -122,11 +122,11 @@ module _ (mails new : List MailView) (kept : List Place) (least : ℕ) (mail : F
       ∙ (ap (λ (ps : List PostPlace). ps ++ place_view place ∷ []) is.each_place
       ∙ (ap (λ (n : ℕ). post_places mail.posted ++ record { unit = place.unit; number = n } ∷ []) number_is ∙ sym (places_more [] mail.posted (unit_post place.unit d))))
 
-  still_placed : (p : Place) → IsPlaced mails p → IsPlaced new p
+  still_placed : (p : Place) → IsPlaceOfPost mails p → IsPlaceOfPost new p
   unfolding with_one
   still_placed p at = by (p.unit - 1 == place.unit - 1) refl
     where
-      by : (b : Bool) → (p.unit - 1 == place.unit - 1) ≡ b → IsPlaced new p
+      by : (b : Bool) → (p.unit - 1 == place.unit - 1) ≡ b → IsPlaceOfPost new p
       by true e =
           let same : p.unit - 1 ≡ place.unit - 1 = eqb-true (p.unit - 1) (place.unit - 1) e in
           let mails_same : at.mail ≡ posts.mail = let here : Some at.mail ≡ Some posts.mail = sym at.there ∙ (ap (slice_get mails) same ∙ posts.there) in cc in
@@ -148,7 +148,7 @@ module _ (mails new : List MailView) (kept : List Place) (least : ℕ) (mail : F
             within = at.within;
           }
 
-  now_placed : IsPlaced new place
+  now_placed : IsPlaceOfPost new place
   unfolding with_one
   now_placed =
       let longer = length-append posts.mail.posted (d ∷ []) in
@@ -177,8 +177,8 @@ module _ (mails new : List MailView) (kept : List Place) (least : ℕ) (mail : F
         named = λ unit n later. is.named unit n (fewer unit n later);
       }
     where
-      placed_one : {k : ℕ} (p : Place) → ((k ≡ length kept) × (p ≡ place)) ⊎ ((k < length kept) × (slice_get kept k ≡ Some p)) → IsPlaced new p
-      placed_one p (inl here) = subst (λ q. IsPlaced new q) (sym here.1) now_placed
+      placed_one : {k : ℕ} (p : Place) → ((k ≡ length kept) × (p ≡ place)) ⊎ ((k < length kept) × (slice_get kept k ≡ Some p)) → IsPlaceOfPost new p
+      placed_one p (inl here) = subst (λ q. IsPlaceOfPost new q) (sym here.1) now_placed
       placed_one p (inr there) = still_placed p (is.placed _ p there.1)
 
       before_one : (k : ℕ) (p : Place) → k < least → ((k ≡ length kept) × (p ≡ place)) ⊎ ((k < length kept) × (slice_get kept k ≡ Some p)) → is_place_undelivered mail.given (place_view p) ≡ false
@@ -263,10 +263,10 @@ module _ (mails new : List MailView) (kept : List Place) (least : ℕ) (mail : F
           let other : unit ≢ i + 1 = λ same. there.0 (omega (arith, low, same)) in
           is.each_mail i m there.1 ∙ ap (λ (hs : List HappeningView). seen (posts_of_unit (i + 1) mail.posted) hs) (elsewhere (unit == (i + 1)) refl other)
 
-  pub stays_placed : (p : Place) → IsPlaced mails p → IsPlaced new p
+  pub stays_placed : (p : Place) → IsPlaceOfPost mails p → IsPlaceOfPost new p
   stays_placed p at = by (p.unit - 1 == unit - 1) refl
     where
-      by : (b : Bool) → (p.unit - 1 == unit - 1) ≡ b → IsPlaced new p
+      by : (b : Bool) → (p.unit - 1 == unit - 1) ≡ b → IsPlaceOfPost new p
       by true e =
           let same : p.unit - 1 ≡ unit - 1 = eqb-true (p.unit - 1) (unit - 1) e in
           let mails_same : at.mail ≡ gives.mail = let here : Some at.mail ≡ Some gives.mail = sym at.there ∙ (ap (slice_get mails) same ∙ gives.there) in cc in
@@ -288,7 +288,7 @@ module _ (mails new : List MailView) (kept : List Place) (least : ℕ) (mail : F
           }
 
   -- in the new mails a datagram is undelivered where it is at its unit
-  undelivered_new : (p : Place) → IsPlaced new p → is_undelivered_in new p ≡ is_place_undelivered after_gift.given (place_view p)
+  undelivered_new : (p : Place) → IsPlaceOfPost new p → is_undelivered_in new p ≡ is_place_undelivered after_gift.given (place_view p)
   unfolding after_gift
   undelivered_new p at =
       let low_here = at.unit in

@@ -25,22 +25,22 @@ abbrev pub place_view : Place → PostPlace
 place_view place = record { unit = place.unit; number = place.number }
 
 -- the datagram was posted at its unit, of which these are the mails, from unit 1 on
-pub record IsPlaced (mails : List MailView) (place : Place) : Type 0 where
+pub record IsPlaceOfPost (mails : List MailView) (place : Place) : Type 0 where
   pub unit : 1 ≤ place.unit
   pub number : 1 ≤ place.number
   pub mail : MailView
   pub there : slice_get mails (place.unit - 1) ≡ Some mail
   pub within : place.number ≤ length mail.posted
 
-abbrev pub ArePlaced : List MailView → List Place → Type 0
-ArePlaced mails places = (k : ℕ) (place : Place) → slice_get places k ≡ Some place → IsPlaced mails place
+abbrev pub ArePlacesOfPosts : List MailView → List Place → Type 0
+ArePlacesOfPosts mails places = (k : ℕ) (place : Place) → slice_get places k ≡ Some place → IsPlaceOfPost mails place
 
 -- Each unit's mail is kept, where each datagram stands, and which is the first undelivered one.
 pub record KeepsFleetMail (mails : List MailView) (kept : List Place) (least : ℕ) (mail : FleetMailView) : Type 0 where
   pub units : length mails ≡ 8
   pub each_mail : (i : ℕ) (m : MailView) → slice_get mails i ≡ Some m → m ≡ mail_of (i + 1) mail
   pub each_place : map place_view kept ≡ post_places mail.posted
-  pub placed : ArePlaced mails kept
+  pub placed : ArePlacesOfPosts mails kept
   pub within : least ≤ length kept
   pub before : (k : ℕ) (place : Place) → k < least → slice_get kept k ≡ Some place → is_place_undelivered mail.given (place_view place) ≡ false
   pub found : (place : Place) → slice_get kept least ≡ Some place → is_place_undelivered mail.given (place_view place) ≡ true

@@ -2,9 +2,9 @@
 ghost use Rattle.std.specs.Prelude.{◌≡◌, ◌≤◌, ◌==◌, IfOk, length, option_copied, option_map};
 ghost use Rattle.std.specs.Prelude.{Some};
 ghost use Rattle.std.specs.List.{slice_split};
-ghost use Rattle.exchange_trace.specs.Scripts.{finish, part_word};
+ghost use Rattle.exchange_trace.specs.Scripts.{finish};
 ghost use Rattle.exchange_trace.specs.declared.fault.ScriptFault.TheVariants.{Memory};
-ghost use Rattle.field_grammar.specs.Answers.{Gives};
+ghost use Rattle.field_grammar.specs.Answers.{AnswersAs};
 ghost use Rattle.link_net.specs.Reading.{keyword_view, words_of};
 ghost use Rattle.fleet_trace.specs.FleetLines.{Ask_next, Finish_batch};
 ghost use Rattle.fleet_trace.specs.FleetScripts as scripts;
@@ -12,6 +12,7 @@ ghost use Rattle.fleet_link.specs.Lines.{fleet_line_view};
 
 use exchange_trace::{ScriptFault, decimal_in};
 use link_net::line::{Keyword, Line, count_of, keyword_of, line_of};
+use link_net::values::part_in;
 use link_net::words::{cut, only_word_in, word_count};
 use load_base::PartText;
 use std::alloc::Global;
@@ -45,7 +46,7 @@ pub fn read_fleet_line(
     units: u8,
     text: &[u8],
 ) -> Result<FleetLine, ScriptFault>
-    ensures { Gives Memory fleet_line_view result (scripts.fleet_words_said line units
+    ensures { AnswersAs Memory fleet_line_view result (scripts.fleet_words_said line units
         (slice_split (λ byte. byte == 32) text.now)) }
 {
     let (first, rest) = cut(text, b' ');
@@ -64,14 +65,14 @@ pub fn read_fleet_line(
     line_alone(line, keyword_of(first), rest)
 }
 
-// What the words after `at` say.
+/// What the words after `at` say.
 fn line_at(
     alloc: Global,
     line: u64,
     units: u8,
     rest: Option<&[u8]>,
 ) -> Result<FleetLine, ScriptFault>
-    ensures { Gives Memory fleet_line_view result
+    ensures { AnswersAs Memory fleet_line_view result
         (scripts.at_said line units (words_of (option_copied rest.entry))) }
 {
     let Some(text) = rest else {
@@ -88,7 +89,7 @@ fn line_at(
     }
 }
 
-// The number of words is tested before any of them, and before the unit's word.
+/// The number of words is tested before any of them, and before the unit's word.
 fn line_of_unit(
     alloc: Global,
     line: u64,
@@ -97,7 +98,7 @@ fn line_of_unit(
     keyword: Keyword,
     rest: Option<&[u8]>,
 ) -> Result<FleetLine, ScriptFault>
-    ensures { Gives Memory fleet_line_view result (scripts.unit_line_said line units unit.now
+    ensures { AnswersAs Memory fleet_line_view result (scripts.unit_line_said line units unit.now
         (Some (keyword_view keyword)) (words_of (option_copied rest.entry))) }
 {
     if !takes(keyword, count_in(rest)) {
@@ -108,7 +109,7 @@ fn line_of_unit(
     Ok(FleetLine::At { unit, line })
 }
 
-// How many words are left of a line.
+/// How many words are left of a line.
 fn count_in(rest: Option<&[u8]>) -> usize
     ensures { result ≡ length (words_of (option_copied rest.entry)) }
 {
@@ -118,7 +119,7 @@ fn count_in(rest: Option<&[u8]>) -> usize
     }
 }
 
-// Whether so many words may stand after this one, where the line is one of a unit.
+/// Whether so many words may stand after this one, where the line is one of a unit.
 fn takes(keyword: Keyword, count: usize) -> bool
     ensures { result ≡ scripts.takes (keyword_view keyword) count }
 {
@@ -134,7 +135,7 @@ fn takes(keyword: Keyword, count: usize) -> bool
     }
 }
 
-// A unit's number.
+/// A unit's number.
 fn unit_in(line: u64, units: u8, word: &[u8]) -> Result<u8, ScriptFault>
     ensures said { result ≡ scripts.unit_word line units word.now }
     ensures within { IfOk result (λ unit. unit ≤ units) }
@@ -145,14 +146,14 @@ fn unit_in(line: u64, units: u8, word: &[u8]) -> Result<u8, ScriptFault>
     }
 }
 
-// What the words of a line say that has no unit.
+/// What the words of a line say that has no unit.
 #[tactic(auto, using(crate::proofs::Words::give_number, crate::proofs::Words::lose_number, crate::proofs::Words::next_number))]
 fn line_alone(
     line: u64,
     keyword: Option<Keyword>,
     rest: Option<&[u8]>,
 ) -> Result<FleetLine, ScriptFault>
-    ensures { Gives Memory fleet_line_view result (scripts.fleet_line_said line
+    ensures { AnswersAs Memory fleet_line_view result (scripts.fleet_line_said line
         (option_map keyword_view keyword) (words_of (option_copied rest.entry))) }
 {
     match keyword {
@@ -166,7 +167,7 @@ fn line_alone(
 
 #[tactic(auto, using(crate::proofs::Words::finish_alone))]
 fn finish_of(line: u64, rest: Option<&[u8]>) -> Result<FleetLine, ScriptFault>
-    ensures { Gives Memory fleet_line_view result (scripts.fleet_line_said line
+    ensures { AnswersAs Memory fleet_line_view result (scripts.fleet_line_said line
         (Some finish) (words_of (option_copied rest.entry))) }
 {
     match rest {
@@ -175,10 +176,10 @@ fn finish_of(line: u64, rest: Option<&[u8]>) -> Result<FleetLine, ScriptFault>
     }
 }
 
-// What the words after `batch` say.
+/// What the words after `batch` say.
 #[tactic(auto, using(crate::proofs::Words::batch_words))]
 fn batch_of(line: u64, rest: Option<&[u8]>) -> Result<FleetLine, ScriptFault>
-    ensures { Gives Memory fleet_line_view result
+    ensures { AnswersAs Memory fleet_line_view result
         (scripts.batch_said line (words_of (option_copied rest.entry))) }
 {
     match only_word_in(rest) {
@@ -187,19 +188,9 @@ fn batch_of(line: u64, rest: Option<&[u8]>) -> Result<FleetLine, ScriptFault>
     }
 }
 
-// The part number of a batch.
-fn part_in(line: u64, word: &[u8]) -> Result<PartText, ScriptFault>
-    ensures { result ≡ part_word line word.now }
-{
-    match PartText::read(word) {
-        Ok(part) => Ok(part),
-        Err(_) => Err(ScriptFault::Name(line)),
-    }
-}
-
 #[tactic(auto, using(crate::proofs::Words::alone))]
 fn ask_next_of(line: u64, rest: Option<&[u8]>) -> Result<FleetLine, ScriptFault>
-    ensures { Gives Memory fleet_line_view result
+    ensures { AnswersAs Memory fleet_line_view result
         (scripts.alone_said line Ask_next (words_of (option_copied rest.entry))) }
 {
     match rest {
@@ -210,7 +201,7 @@ fn ask_next_of(line: u64, rest: Option<&[u8]>) -> Result<FleetLine, ScriptFault>
 
 #[tactic(auto, using(crate::proofs::Words::alone))]
 fn finish_batch_of(line: u64, rest: Option<&[u8]>) -> Result<FleetLine, ScriptFault>
-    ensures { Gives Memory fleet_line_view result
+    ensures { AnswersAs Memory fleet_line_view result
         (scripts.alone_said line Finish_batch (words_of (option_copied rest.entry))) }
 {
     match rest {

@@ -133,7 +133,7 @@ impl FleetLink {
     }
 }
 
-// Keeps what is given at a unit.
+/// Keeps what is given at a unit.
 fn keep(mail: &mut FleetMail, given: &FleetHappening)
     requires { NamesPlaced mail.old (fleet_happening_view given.now) }
     ensures { mail.new ≡ with_gift mail.old (fleet_happening_view given.now) }

@@ -10,7 +10,8 @@ ghost use Rattle.fleet_trace.specs.FleetFollowing.{given_at_place, least_fleet_d
 ghost use Rattle.fleet_trace.specs.FleetPosts.{located, undelivered_places, unit_post};
 ghost use Rattle.fleet_trace.specs.FleetTraces.{At_unit, fleet_happening_view};
 ghost use Rattle.link_net.specs.Mail.{MailView, NamesPosted};
-ghost use Rattle.fleet_link.specs.FleetMail.{ArePlaced, GivesAt, IsPlaced, NamesPlaced, PostsAt};
+ghost use Rattle.fleet_link.specs.FleetMail.{ArePlacesOfPosts, GivesAt, IsPlaceOfPost, NamesPlaced};
+ghost use Rattle.fleet_link.specs.FleetMail.{PostsAt};
 ghost use Rattle.fleet_link.specs.FleetMail.{fleet_scene_in, is_undelivered_in, mail_of};
 ghost use Rattle.fleet_link.specs.FleetMail.{place_view};
 ghost use Rattle.fleet_link.specs.declared.fleet_mail.Place.{Place};
@@ -162,7 +163,7 @@ impl FleetMail {
         &self.mails[unit as usize - 1]
     }
 
-    // Where the datagram of this number over all units stands, if it was posted.
+    /// Where the datagram of this number over all units stands, if it was posted.
     fn place_of(&self, number: u64) -> Option<Place>
         ensures place { option_map place_view result ≡ located self.now.posted number }
         ensures unit { IfSome result (λ place. (1 ≤ place.unit) × (place.unit ≤ 8)) }
@@ -171,7 +172,7 @@ impl FleetMail {
         place_at(self.places.as_slice(), index)
     }
 
-    // Where the undelivered datagram with the least number stands, if there is one.
+    /// Where the undelivered datagram with the least number stands, if there is one.
     fn least_place(&self) -> Option<Place>
         ensures place { option_map place_view result
             ≡ first_place (undelivered_places self.now.posted self.now.given) }
@@ -180,7 +181,7 @@ impl FleetMail {
         place_at(self.places.as_slice(), self.least)
     }
 
-    // The delivery of the datagram that stands here, if there is one.
+    /// The delivery of the datagram that stands here, if there is one.
     fn delivery_at(&self, place: Option<Place>) -> Option<FleetHappening>
         requires { IfSome place (λ p. (1 ≤ p.unit) × (p.unit ≤ 8)) }
         ensures value { (units : ℕ) (waits_at : (unit : ℕ) → Side → Bool) (may_ask : Bool)
@@ -195,14 +196,14 @@ impl FleetMail {
     }
 }
 
-// Where the datagram of this index stands.
+/// Where the datagram of this index stands.
 fn place_at(places: &[Place], index: usize) -> Option<Place>
     ensures { result ≡ slice_get places.now index }
 {
     places.get(index).copied()
 }
 
-// What happens at a unit, if anything does.
+/// What happens at a unit, if anything does.
 fn at_unit(unit: u8, happening: Option<Happening>) -> Option<FleetHappening>
     ensures { option_map fleet_happening_view result
         ≡ option_map (λ h. At_unit unit (happening_view h)) happening }
@@ -213,7 +214,7 @@ fn at_unit(unit: u8, happening: Option<Happening>) -> Option<FleetHappening>
     }
 }
 
-// Takes a datagram at the unit of this index. The number that it has there.
+/// Takes a datagram at the unit of this index. The number that it has there.
 fn post_at(mails: &mut [Mail], index: usize, datagram: Datagram) -> Result<u64, NoMemory>
     requires { index < length mails.old }
     ensures ok { IfOk result (λ number. PostsAt index (datagram_view datagram) number mails.old
@@ -224,7 +225,7 @@ fn post_at(mails: &mut [Mail], index: usize, datagram: Datagram) -> Result<u64, 
     Ok(mails[index].posted_count() as u64)
 }
 
-// Keeps what is given at the unit of this index.
+/// Keeps what is given at the unit of this index.
 fn give_at(mails: &mut [Mail], index: usize, given: &Happening)
     requires within { index < length mails.old }
     requires named { (m : MailView) → slice_get mails.old index ≡ Some m
@@ -234,9 +235,9 @@ fn give_at(mails: &mut [Mail], index: usize, given: &Happening)
     mails[index].give(given);
 }
 
-// The index of the first undelivered datagram, from this one on, or how many there are.
+/// The index of the first undelivered datagram, from this one on, or how many there are.
 fn next_undelivered(mails: &[Mail], places: &[Place], from: usize) -> usize
-    requires placed { ArePlaced mails.now places.now }
+    requires placed { ArePlacesOfPosts mails.now places.now }
     requires within { from ≤ length places.now }
     ensures later { from ≤ result }
     ensures within { result ≤ length places.now }
@@ -252,9 +253,9 @@ fn next_undelivered(mails: &[Mail], places: &[Place], from: usize) -> usize
     at
 }
 
-// Whether a datagram is undelivered at its unit.
+/// Whether a datagram is undelivered at its unit.
 fn is_undelivered(mails: &[Mail], place: Place) -> bool
-    requires { IsPlaced mails.now place }
+    requires { IsPlaceOfPost mails.now place }
     ensures { result ≡ is_undelivered_in mails.now place }
 {
     match mails[place.unit as usize - 1].fate(place.number) {

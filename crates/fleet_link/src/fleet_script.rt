@@ -82,7 +82,7 @@ impl FleetScript {
     }
 }
 
-// The lines of a text.
+/// The lines of a text.
 fn read_lines(alloc: Global, bytes: &[u8], units: u8) -> Result<List<FleetLine>, ScriptFault>
     requires { length bytes.now ≤ 1000000 }
     ensures found { IfOk result (λ lines. fleet_lines_said units (written_lines bytes.now)
@@ -104,7 +104,7 @@ fn read_lines(alloc: Global, bytes: &[u8], units: u8) -> Result<List<FleetLine>,
     Ok(lines)
 }
 
-// Adds what a line says, unless it is passed over.
+/// Adds what a line says, unless it is passed over.
 fn take_line(
     alloc: Global,
     lines: &mut List<FleetLine>,

@@ -87,7 +87,7 @@ pub fn next_turn(
     }
 }
 
-// The first that the lines from this one on give; some give nothing. After the last comes the end.
+/// The first that the lines from this one on give; some give nothing. After the last comes the end.
 fn from_lines(
     alloc: Global,
     lines: &[FleetLine],
@@ -121,7 +121,7 @@ fn from_lines(
     Ok((end, at))
 }
 
-// The first that a line gives, if it gives anything.
+/// The first that a line gives, if it gives anything.
 fn line_begins(
     alloc: Global,
     mail: &FleetMail,
@@ -148,7 +148,7 @@ fn line_begins(
     }
 }
 
-// The first that a line of a target gives at this unit.
+/// The first that a line of a target gives at this unit.
 fn unit_begins(
     alloc: Global,
     mail: &FleetMail,
@@ -171,7 +171,7 @@ fn unit_begins(
     }
 }
 
-// A line that gives one happening, if any.
+/// A line that gives one happening, if any.
 fn once(given: Option<FleetHappening>) -> Option<FleetTurn>
     ensures { result ≡ option_map (λ g. record { given = g; rest = rests.Nothing }) given }
 {
@@ -184,14 +184,14 @@ fn once(given: Option<FleetHappening>) -> Option<FleetTurn>
     }
 }
 
-// A `finish` begins with the loader's turn at each unit.
+/// A `finish` begins with the loader's turn at each unit.
 fn loaders_first() -> FleetRest
     ensures { fleet_rest_view result ≡ following.Finish_goes_on following.loaders_first }
 {
     FleetRest::Finishing([Side::Loader; MOST_UNITS])
 }
 
-// What is left of a line gives something, or the line is done.
+/// What is left of a line gives something, or the line is done.
 fn goes_on(mail: &FleetMail, rest: FleetRest, waits: &[Waits], may_ask: bool) -> Option<FleetTurn>
     requires { length waits.now ≤ 8 }
     ensures { IsFleetTurn mail.now result (following.fleet_goes_on
@@ -211,7 +211,7 @@ fn goes_on(mail: &FleetMail, rest: FleetRest, waits: &[Waits], may_ask: bool) ->
     }
 }
 
-// The `finish` after an upload was asked. Once it gives nothing, the next one is asked.
+/// The `finish` after an upload was asked. Once it gives nothing, the next one is asked.
 fn batch_finishes(
     mail: &FleetMail,
     firsts: [Side; MOST_UNITS],
@@ -228,7 +228,7 @@ fn batch_finishes(
     }
 }
 
-// The upload to the next target of a batch is asked, if it may be.
+/// The upload to the next target of a batch is asked, if it may be.
 fn asking(may_ask: bool) -> Option<FleetTurn>
     ensures { (mail : FleetMailView) (waits : List Waits) → IsFleetTurn mail result
         (following.asking (seen_with mail waits may_ask) following.Line_is_done) }
@@ -240,7 +240,7 @@ fn asking(may_ask: bool) -> Option<FleetTurn>
     }
 }
 
-// The same of `finishbatch`, and then its `finish` begins.
+/// The same of `finishbatch`, and then its `finish` begins.
 fn batch_asking(may_ask: bool) -> Option<FleetTurn>
     ensures { (mail : FleetMailView) (waits : List Waits) → IsFleetTurn mail result
         (following.batch_asking (seen_with mail waits may_ask)) }
@@ -255,7 +255,7 @@ fn batch_asking(may_ask: bool) -> Option<FleetTurn>
     }
 }
 
-// A unit is ticked only where nothing is undelivered at any.
+/// A unit is ticked only where nothing is undelivered at any.
 fn finishing(
     mail: &FleetMail,
     of: FinishOf,
@@ -276,7 +276,7 @@ fn finishing(
     Some(tick_turn(of, firsts, ticked))
 }
 
-// What is left of a `finish`.
+/// What is left of a `finish`.
 fn rest_of(of: FinishOf, firsts: [Side; MOST_UNITS]) -> FleetRest
     ensures { fleet_rest_view result ≡ finishes_of of (turns_in firsts) }
 {
@@ -286,7 +286,7 @@ fn rest_of(of: FinishOf, firsts: [Side; MOST_UNITS]) -> FleetRest
     }
 }
 
-// The turn that ticks; it passes to the side that isn't ticked, at that unit alone.
+/// The turn that ticks; it passes to the side that isn't ticked, at that unit alone.
 fn tick_turn(of: FinishOf, firsts: [Side; MOST_UNITS], ticked: FleetTick) -> FleetTurn
     requires { ticked.index < 8 }
     ensures given { fleet_happening_view result.given
@@ -304,7 +304,7 @@ fn tick_turn(of: FinishOf, firsts: [Side; MOST_UNITS], ticked: FleetTick) -> Fle
     }
 }
 
-// Whose turn it is after a tick.
+/// Whose turn it is after a tick.
 fn turns_passed(firsts: [Side; MOST_UNITS], ticked: FleetTick) -> [Side; MOST_UNITS]
     requires { ticked.index < 8 }
     ensures { turns_in result ≡ following.turn_passed (turns_in firsts) (tick_view ticked) }
@@ -314,7 +314,7 @@ fn turns_passed(firsts: [Side; MOST_UNITS], ticked: FleetTick) -> [Side; MOST_UN
     firsts
 }
 
-// The least unit that has a side that waits, and its side that is ticked, by its own turn.
+/// The least unit that has a side that waits, and its side that is ticked, by its own turn.
 fn first_tick(firsts: [Side; MOST_UNITS], waits: &[Waits]) -> Option<FleetTick>
     requires { length waits.now ≤ 8 }
     ensures side { (mail : FleetMailView) (may_ask : Bool) → option_map tick_view result
@@ -331,7 +331,7 @@ fn first_tick(firsts: [Side; MOST_UNITS], waits: &[Waits]) -> Option<FleetTick>
     None
 }
 
-// Which sides of this unit have a live session.
+/// Which sides of this unit have a live session.
 fn waiting_at(waits: &[Waits], unit: u8) -> Waiting
     requires { 1 ≤ unit }
     ensures { result ≡ record {
@@ -348,7 +348,7 @@ fn waiting_at(waits: &[Waits], unit: u8) -> Waiting
     }
 }
 
-// Which sides have a live session.
+/// Which sides have a live session.
 fn waiting(waits: Waits) -> Waiting
     ensures { result ≡ record { loader = waits.loader; target = waits.target } }
 {

@@ -21,8 +21,8 @@ ghost use Rattle.fleet_link.specs.FleetLinks.{with_post_at, with_start_at};
 ghost use Rattle.fleet_link.specs.declared.fleet_turn.FleetRest.TheVariants as rests;
 
 /// Who hands the link of a fleet all that the sides of its units post, tells it which of them wait
-/// and whether an upload may be asked, and starts one where the link asks, gets a trace that follows
-/// the script.
+/// and whether an upload may be asked, and starts one where the link asks, gets a trace that
+/// follows the script.
 pub fn a_fleets_link_follows_its_script()
     ensures start { (units : ℕ) (waiting : FleetWaiting) (asks : FleetAsking)
         (script : List FleetLine) → HasFollowedFleet units waiting asks script [] (record {

@@ -1,7 +1,7 @@
 -- The end of a fleet comes last.
 use Rattle.std.proofs.Common.{◌≡◌, ◌⊎◌, inl, inr, ⊎_elim, ℕ, Bool, true, false, List, [], ◌∷◌, Option, Some, None, refl, sym, ap, subst, ◌∙◌}
 use Rattle.exchange_trace.specs.Happenings.{Booted, Delivered, Ended, HappeningView, Info_started, Injected, Lost, Power_cut, Size_told, Ticked, Upload_started}
-use Rattle.fleet_trace.specs.FleetTraces.{All_ended, At_unit, FleetHappeningView, HasNotEnded, IsBeforeEnd, Of_all, Of_batch, Of_unit, StepOfFleet}
+use Rattle.fleet_trace.specs.FleetTraces.{All_ended, FleetHappeningView, HasNotEnded, IsBeforeEnd, Of_all, Of_batch, Of_unit, StepOfFleet}
 use Rattle.fleet_trace.specs.FleetPosts.{given_as, given_in_fleet}
 use Rattle.fleet_trace.specs.FleetLines.{FleetLine}
 use Rattle.fleet_trace.specs.FleetFollowing.{FleetAsking, FleetPlan, FleetScene, FleetTurn, FleetWaiting, FollowsFleet, Line_is_done, fleet_begins, fleet_goes_on, fleet_plan_after, fleet_plan_of, fleet_scene_after, fleet_turn, from_fleet_lines, next_fleet_turn, or_next}

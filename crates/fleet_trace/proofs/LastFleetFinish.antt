@@ -5,7 +5,7 @@ use Rattle.std.specs.Prelude.{if◌then◌else◌}
 use Rattle.exchange_trace.specs.Following.{FollowsScript, delivery}
 use Rattle.exchange_trace.specs.Lines.{Finish}
 use Rattle.exchange_trace.specs.Steps.{Step}
-use Rattle.fleet_trace.specs.FleetTraces.{All_ended, At_unit, FleetHappeningView, HasNotEnded, Next_asked, Of_all, Of_batch, Of_unit, StepOfFleet, ended_step, steps_of_unit}
+use Rattle.fleet_trace.specs.FleetTraces.{All_ended, At_unit, FleetHappeningView, HasNotEnded, Next_asked, Of_all, StepOfFleet, ended_step, steps_of_unit}
 use Rattle.fleet_trace.specs.FleetPosts.{PostPlace, given_in_fleet, undelivered_places}
 use Rattle.fleet_trace.specs.FleetLines.{FleetLine, Ask_next, Begin_batch, Finish_all, Finish_batch, Give_numbered, Line_at, Lose_numbered, Next_of_all}
 use Rattle.fleet_trace.specs.FleetFollowing.{Batch_finishes, Deliveries_left, Finish_goes_on, Finishes, FleetAsking, FleetPlan, FleetRest, FleetScene, FleetTurn, FleetWaiting, FollowsFleet, Line_is_done, TickTurns, UnitTick, asking, first_place, fleet_begins, fleet_delivery, fleet_finishing, fleet_finishing_tick, fleet_goes_on, fleet_loss, fleet_plan_after, fleet_scene_after, fleet_tick, fleet_turn, from_fleet_lines, given_at_place, given_by_line, least_fleet_delivery, loaders_first, next_fleet_turn, or_asking, or_next, turn_leaving, turn_passed}

@@ -5,7 +5,7 @@ use Rattle.std.specs.List.{Contains, range_with_len}
 use Rattle.exchange_trace.specs.Following.{delivery, delivery_of_first, least_delivery}
 use Rattle.exchange_trace.specs.Happenings.{DatagramView, Delivered, HappeningView, other}
 use Rattle.exchange_trace.specs.Posts.{IsUndelivered, is_undelivered, numbered, undelivered}
-use Rattle.exchange_trace.specs.PostLaws.{undelivered_has}
+use Rattle.exchange_trace.proofs.PostLemmas.{undelivered_has}
 use Rattle.fleet_trace.specs.FleetTraces.{At_unit, FleetHappeningView}
 use Rattle.fleet_trace.specs.FleetPosts.{PostPlace, UnitPost, happenings_of_unit, is_place_undelivered, numbers_of_unit, post_places, post_places_after, posts_of_unit, undelivered_places}
 use Rattle.fleet_trace.specs.FleetFollowing.{FleetScene, first_place, given_at_place, least_fleet_delivery, unit_scene}

@@ -1,6 +1,7 @@
 //! Laws of fleets: what each unit's part is. Each function does nothing; its clauses are the law.
 ghost use Rattle.std.specs.Prelude.{◌≡◌, ◌≢◌, ◌<◌, ◌≤◌, ◌-◌, ◌++◌, ◌∷◌, [], ℕ, List, Bool};
-ghost use Rattle.std.specs.Prelude.{Some, None, if◌then◌else◌, false, length, not, slice_get, true, ◌==◌};
+ghost use Rattle.std.specs.Prelude.{Some, None, if◌then◌else◌, false, length, not, slice_get, true};
+ghost use Rattle.std.specs.Prelude.{◌==◌};
 ghost use Rattle.exchange_trace.specs.declared.trace.Happening.TheVariants as happenings;
 ghost use Rattle.exchange_trace.specs.declared.trace.Side.{Side};
 ghost use Rattle.exchange_trace.specs.declared.trace.Side.TheVariants as sides;
@@ -9,7 +10,8 @@ ghost use Rattle.exchange_trace.specs.Following.{FollowsScript, Nothing_left, Sc
 ghost use Rattle.exchange_trace.specs.Following.{least_delivery, next_turn, plan_after, plan_of};
 ghost use Rattle.exchange_trace.specs.Following.{scene_after, turn};
 ghost use Rattle.exchange_trace.specs.Happenings.{Booted, DatagramView, Delivered};
-ghost use Rattle.exchange_trace.specs.Happenings.{HappeningView, Lost, Ticked, Upload_started, other};
+ghost use Rattle.exchange_trace.specs.Happenings.{HappeningView, Lost, Ticked, Upload_started};
+ghost use Rattle.exchange_trace.specs.Happenings.{other};
 ghost use Rattle.exchange_trace.specs.Lines.{Boot, Finish, Line};
 ghost use Rattle.exchange_trace.specs.Posts.{AllHonest, IsHonest, happenings_of, posted_in};
 ghost use Rattle.exchange_trace.specs.Posts.{numbered, undelivered};
@@ -50,7 +52,8 @@ pub fn a_units_part_is_of_its_own_steps()
     ensures happenings { (unit : ℕ) (steps : List StepOfFleet)
         → happenings_of_unit unit (fleet_happenings steps)
         ≡ happenings_of (steps_of_unit unit steps) }
-    ensures scene { (units : ℕ) (waiting : FleetWaiting) (asks : FleetAsking) (steps : List StepOfFleet) (unit : ℕ)
+    ensures scene { (units : ℕ) (waiting : FleetWaiting) (asks : FleetAsking)
+        (steps : List StepOfFleet) (unit : ℕ)
         → unit_scene (fleet_scene_after units waiting asks steps) unit
         ≡ scene_after (waiting unit) (steps_of_unit unit steps) }
 {}
@@ -80,11 +83,13 @@ pub fn what_a_fleets_script_gives_can_be_given()
     ensures asked { (s : FleetScene) (p : FleetPlan) → (next_fleet_turn s p).given ≡ Next_asked
         → s.may_ask ≡ true }
     // So it is throughout a trace that follows a script.
-    ensures all_given { (units : ℕ) (waiting : FleetWaiting) (asks : FleetAsking) (script : List FleetLine)
+    ensures all_given { (units : ℕ) (waiting : FleetWaiting) (asks : FleetAsking)
+        (script : List FleetLine)
         (steps : List StepOfFleet) (unit : ℕ)
         → FollowsFleet units waiting asks script steps → HasNotEnded steps
         → AllCanBeGiven (steps_of_unit unit steps) }
-    ensures all_honest { (units : ℕ) (waiting : FleetWaiting) (asks : FleetAsking) (script : List FleetLine)
+    ensures all_honest { (units : ℕ) (waiting : FleetWaiting) (asks : FleetAsking)
+        (script : List FleetLine)
         (steps : List StepOfFleet) (unit : ℕ)
         → FollowsFleet units waiting asks script steps → AllHonest (steps_of_unit unit steps) }
 {}
@@ -96,7 +101,8 @@ pub fn the_end_of_a_fleet_is_last()
     ensures ended { (s : FleetScene)
         → next_fleet_turn s (fleet_plan_of []) ≡ fleet_turn All_ended Line_is_done [] }
     // So a trace that follows a script hasn't ended before another step than the end.
-    ensures not_before { (units : ℕ) (waiting : FleetWaiting) (asks : FleetAsking) (script : List FleetLine)
+    ensures not_before { (units : ℕ) (waiting : FleetWaiting) (asks : FleetAsking)
+        (script : List FleetLine)
         (s : StepOfFleet) (earlier : List StepOfFleet) → IsBeforeEnd s
         → FollowsFleet units waiting asks script (s ∷ earlier) → HasNotEnded earlier }
 {}
@@ -115,7 +121,8 @@ pub fn steps_follow_their_own_script()
         → CanBeGiven s.posted s.happenings h
         → next_turn s (plan_of (lines_giving h ++ later)) ≡ turn h Nothing_left later }
     // In a fleet, before its end and with it.
-    ensures each_unit { (units : ℕ) (waiting : FleetWaiting) (asks : FleetAsking) (script : List FleetLine)
+    ensures each_unit { (units : ℕ) (waiting : FleetWaiting) (asks : FleetAsking)
+        (script : List FleetLine)
         (steps : List StepOfFleet) (unit : ℕ)
         → FollowsFleet units waiting asks script steps
         → FollowsScript (waiting unit) (own_script (steps_of_unit unit steps))
@@ -148,13 +155,15 @@ pub fn what_is_undelivered_is_so_at_its_unit()
 /// A fleet's last `finish` is for each unit a `finish` of its own. Of the unit's own script that is
 /// all that is left where it begins.
 pub fn a_last_finish_is_one_at_each_unit()
-    ensures follows { (units : ℕ) (waiting : FleetWaiting) (asks : FleetAsking) (script : List FleetLine)
+    ensures follows { (units : ℕ) (waiting : FleetWaiting) (asks : FleetAsking)
+        (script : List FleetLine)
         (before more : List StepOfFleet) (unit : ℕ) → 1 ≤ unit → unit ≤ units
         → FleetFinishIsLeft units waiting asks script before
         → FollowsFleet units waiting asks script (more ++ before)
         → FollowsScript (waiting unit) (own_script (steps_of_unit unit before) ++ Finish ∷ [])
         (steps_of_unit unit (more ++ before)) }
-    ensures left { (units : ℕ) (waiting : FleetWaiting) (asks : FleetAsking) (script : List FleetLine)
+    ensures left { (units : ℕ) (waiting : FleetWaiting) (asks : FleetAsking)
+        (script : List FleetLine)
         (before : List StepOfFleet) (unit : ℕ)
         → FleetFinishIsLeft units waiting asks script before
         → FollowsFleet units waiting asks script before
@@ -166,16 +175,19 @@ pub fn a_last_finish_is_one_at_each_unit()
 /// left, and then each unit's own steps are left to a last `finish` of their own.
 pub fn a_last_finish_is_reached()
     // Whatever stands before it in the script, and whatever happens.
-    ensures reached { (units : ℕ) (waiting : FleetWaiting) (asks : FleetAsking) (script lines : List FleetLine)
+    ensures reached { (units : ℕ) (waiting : FleetWaiting) (asks : FleetAsking)
+        (script lines : List FleetLine)
         (earlier : List StepOfFleet) → script ≡ lines ++ Finish_all ∷ []
         → FollowsFleet units waiting asks script (Of_all ∷ earlier)
         → ReachesFleetFinish units waiting asks script (Of_all ∷ earlier) }
     // What comes then is what a `finish` gives, before the end of the fleet.
-    ensures gives { (units : ℕ) (waiting : FleetWaiting) (asks : FleetAsking) (script : List FleetLine)
+    ensures gives { (units : ℕ) (waiting : FleetWaiting) (asks : FleetAsking)
+        (script : List FleetLine)
         (before more : List StepOfFleet) → FleetFinishIsLeft units waiting asks script before
         → FollowsFleet units waiting asks script (more ++ before) → HasNotEnded more
         → AllOfFleetFinish units waiting asks more before }
-    ensures each_unit { (units : ℕ) (waiting : FleetWaiting) (asks : FleetAsking) (script : List FleetLine)
+    ensures each_unit { (units : ℕ) (waiting : FleetWaiting) (asks : FleetAsking)
+        (script : List FleetLine)
         (steps : List StepOfFleet) (whole : ReachesFleetFinish units waiting asks script steps)
         → FollowsFleet units waiting asks script steps → (unit : ℕ) → 1 ≤ unit → unit ≤ units
         → IsLeftToOwnFinish (waiting unit) (steps_of_unit unit whole.before)
@@ -198,7 +210,8 @@ pub fn a_fleets_steps_are_those_of_its_units()
     ensures order { (order : List Stepped) (own : StepsOfUnits)
         → ((unit : ℕ) → times_stepped unit order ≡ length (own unit))
         → stepping_order (merged order own) ≡ order }
-    ensures not_ended { (order : List Stepped) (own : StepsOfUnits) → HasNotEnded (merged order own) }
+    ensures not_ended { (order : List Stepped) (own : StepsOfUnits)
+        → HasNotEnded (merged order own) }
     // One more step at a unit, while the others stay, comes before what was merged.
     ensures one_more { (order : List Stepped) (asked : Bool) (unit : ℕ) (s : Step)
         (before after : StepsOfUnits) → after unit ≡ s ∷ before unit
@@ -241,7 +254,8 @@ pub fn worked_fleets()
         ≡ Unit_stepped false 1 ∷ Unit_stepped false 2 ∷ Unit_stepped false 1 ∷ [] }
     // The newest of each unit's steps stands where the order names it newest; where a unit has none
     // left, nothing does.
-    ensures merges { (s z : Step) → merged (Unit_stepped false 2 ∷ Batch_came [] ∷ Unit_stepped true 1
+    ensures merges { (s z : Step)
+        → merged (Unit_stepped false 2 ∷ Batch_came [] ∷ Unit_stepped true 1
         ∷ Unit_stepped false 2 ∷ Unit_stepped false 3 ∷ [])
         (λ unit. if unit == 1 then ended_step ∷ [] else if unit == 2 then s ∷ z ∷ [] else [])
         ≡ Of_unit false 2 s ∷ Of_batch [] ∷ Of_unit true 1 ended_step ∷ Of_unit false 2 z ∷ [] }
@@ -372,13 +386,14 @@ pub fn worked_fleets()
       may_ask = true;
     }) (fleet_plan_of (Finish_batch ∷ []))
         ≡ fleet_turn Next_asked (Batch_finishes loaders_first) [] }
-    ensures delivers_first { (d : DatagramView) (waits : ℕ → Side → Bool) → next_fleet_turn (record {
-      posted = unit_post 2 d ∷ [];
-      happenings = [];
-      units = 2;
-      waits_at = waits;
-      may_ask = true;
-    }) (record { rest = Batch_finishes loaders_first; lines = [] })
+    ensures delivers_first { (d : DatagramView) (waits : ℕ → Side → Bool)
+        → next_fleet_turn (record {
+          posted = unit_post 2 d ∷ [];
+          happenings = [];
+          units = 2;
+          waits_at = waits;
+          may_ask = true;
+        }) (record { rest = Batch_finishes loaders_first; lines = [] })
         ≡ fleet_turn (At_unit 2 (Delivered (other d.side) 1)) (Batch_finishes loaders_first) [] }
     ensures asks_again { next_fleet_turn (record {
       posted = [];

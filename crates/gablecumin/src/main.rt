@@ -1,7 +1,7 @@
 //! The program: runs its arguments over standard output, the files of the current folder and the
-//! eight disks of units, each in a file of the current folder, and exits with the status of the run.
-//! A file is opened at the first call of its disk: none but those of the disks that are used, and
-//! none for two of them.
+//! eight disks of units, each in a file of the current folder, and exits with the status of the
+//! run. A file is opened at the first call of its disk: none but those of the disks that are used,
+//! and none for two of them.
 #![tactic(auto)]
 
 ghost use Rattle.std.specs.Prelude.{◌≡◌};
@@ -44,15 +44,15 @@ fn main(rt: HostRuntime) -> ExitCode {
     exit
 }
 
-// The status of the run.
+/// The status of the run.
 fn exit_of(ended: &Ended) -> ExitCode
     ensures { exit_status result ≡ ended.now.status }
 {
     ExitCode::from(ended.status)
 }
 
-// The arguments after the program's name. Where one of them isn't UTF-8, one empty argument stands
-// for them all: no command has an empty argument, so either is refused.
+/// The arguments after the program's name. Where one of them isn't UTF-8, one empty argument stands
+/// for them all: no command has an empty argument, so either is refused.
 fn words_of(alloc: Global, rt: &(impl Env + AllocGlobal)) -> Result<Vec<String>, AllocError> {
     let mut words = Vec::new(alloc);
     match env::args(rt) {

@@ -2,7 +2,7 @@
 use Rattle.std.proofs.Common.{◌≡◌, ℕ, ◌-◌, ◌<◌, ◌≤◌, ◌^◌, Some, List, [], ◌∷◌, ◌++◌, length, take, refl, sym, ap, ◌∙◌, arith}
 use Rattle.std.specs.Prelude.{codes}
 use Rattle.crc_fields.specs.CheckSums.{crc32_of}
-use Rattle.crc_fields.specs.WidthLaws.{crc16_fits, crc32_fits}
+use Rattle.crc_fields.proofs.WidthLemmas.{crc16_fits, crc32_fits}
 use Rattle.field_grammar.specs.Fields.{number_bytes, pad_bytes}
 use Rattle.field_grammar.specs.Grammar.{IsBytes, Spelled}
 use Rattle.field_grammar.specs.Spelling.{listed_fields}

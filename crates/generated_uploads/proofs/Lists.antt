@@ -2,9 +2,9 @@
 use Rattle.std.proofs.Common.{◌≡◌, ℕ, ◌≤◌, List, [], Option, Some, None, Ok, refl, sym, ap, ◌∙◌, arith}
 use Rattle.std.specs.Prelude.{codes, map, slice_get}
 use Rattle.std.proofs.lemmas.Option.{slice_get-map}
-use Rattle.crc_fields.specs.WidthLaws.{crc16_fits}
+use Rattle.crc_fields.proofs.WidthLemmas.{crc16_fits}
 use Rattle.field_grammar.specs.Answers.{answer}
-use Rattle.field_grammar.specs.ExactLaws.{answer-spelled, spelled_at_start}
+use Rattle.field_grammar.proofs.ExactLemmas.{answer-spelled, spelled_at_start}
 use Rattle.field_grammar.specs.Fields.{number_bytes, pad_bytes}
 use Rattle.field_grammar.specs.Grammar.{Grammar, Spelled}
 use Rattle.field_grammar.specs.Spelling.{listed_fields}

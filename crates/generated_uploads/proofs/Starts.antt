@@ -18,7 +18,7 @@ use Rattle.transfer_end.specs.Views.{end_view}
 use Rattle.session_rules.specs.Loader.{LoaderDecision, listed_upload}
 use Rattle.session_rules.specs.LoaderLog.{loader_reading_changed, new_loader_reading}
 use Rattle.session_rules.specs.MediaFiles.{wanted_of}
-use Rattle.session_rules.specs.KeptLaws.{kept_same}
+use Rattle.session_rules.proofs.KeptLemmas.{kept_same}
 use Rattle.session_rules.specs.KeptLoads.{has_other_type, kept_loads, told_loads, with_kept}
 use Rattle.session_rules.specs.NewConfigs.{IsGoodLoad, kept_beside}
 use Rattle.session_rules.specs.Uploads.{need_of}

@@ -16,10 +16,10 @@ use Rattle.session_rules.specs.Sessions.{OneSessionAStart, kinds_of, starts_in}
 use Rattle.session_rules.specs.TargetLog.{TargetReading, new_target_reading, target_extended}
 use Rattle.session_rules.specs.declared.outcome.SessionKind.TheVariants as kinds
 use Rattle.transfer_end.specs.Readings.{Reading}
-use Rattle.replay_rules.specs.BothEnds.{Is_up, Setting, TargetState, loader_at, noted, reached, target_at, waiting}
+use Rattle.replay_rules.specs.BothEnds.{Is_up, Setting, TargetStanding, loader_at, noted, reached, target_at, waiting}
 use Rattle.replay_rules.specs.Histories.{active_by}
 use Rattle.replay_rules.specs.Promises.{EndsOnce, HasCompleted, NoneGoesDown}
-use Rattle.replay_rules.specs.Runs.{Follows}
+use Rattle.replay_rules.specs.Runs.{TraceFollows}
 use Rattle.session_completion.specs.FinishedRuns.{IsComplete}
 use Rattle.run_promises.specs.Promises.{RunsKeepPromises}
 use Rattle.generated_uploads.specs.GeneratedMedia.{AreGoodMedia, GeneratedMediaAreGood, generated_part}
@@ -54,7 +54,7 @@ stays_up set (s ∷ earlier) (now, before) =
     let (next, after) = reached_up set (event_for sides.Target (posted_in earlier) s.given) r in (
       next,
       ap (λ (notes : List Note). noted notes (target_at set earlier) (reached set (event_for sides.Target (posted_in earlier) s.given) (target_at set earlier))) now
-          ∙ (ap (λ (state : TargetState). reached set (event_for sides.Target (posted_in earlier) s.given) state) is ∙ after),
+          ∙ (ap (λ (state : TargetStanding). reached set (event_for sides.Target (posted_in earlier) s.given) state) is ∙ after),
     )
 
 -- ---- its one session
@@ -83,7 +83,7 @@ module _ (keeps : RunsKeepPromises) (media : GeneratedMediaAreGood) (one : OneSe
 
   starts : first.given ≡ Upload_started set.start.identity.hw set.start.identity.pos (generated_part ∷ [])
   starts = first_starts (waiting set) set.start.identity.hw set.start.identity.pos (generated_part ∷ []) run.more first
-      (subst (λ (list : List Step). Follows set (trial_script set.start.identity) list) run.split is.follows)
+      (subst (λ (list : List Step). TraceFollows set (trial_script set.start.identity) list) run.split is.follows)
 
   completes : (last : StandingView) → last ≡ active_by (target_at set steps) (Some last) → IsComplete set (start number set good is.granted is.can_take first.posts ∷ []) (free number set good is.granted is.can_take first.posts) steps last
   completes last active =
@@ -96,8 +96,8 @@ module _ (keeps : RunsKeepPromises) (media : GeneratedMediaAreGood) (one : OneSe
   complete : CompletesUpload number set steps
   complete =
       let (r, up) = stays_up set steps is.stays_up in
-      let whole = completes r.active (subst (λ (state : TargetState). r.active ≡ active_by state (Some r.active)) (sym up) refl) in
-      let finish = later_finish (waiting set) set.start.identity.hw set.start.identity.pos (generated_part ∷ []) run.more first (subst (λ (list : List Step). Follows set (trial_script set.start.identity) list) run.split is.follows) in
+      let whole = completes r.active (subst (λ (state : TargetStanding). r.active ≡ active_by state (Some r.active)) (sym up) refl) in
+      let finish = later_finish (waiting set) set.start.identity.hw set.start.identity.pos (generated_part ∷ []) run.more first (subst (λ (list : List Step). TraceFollows set (trial_script set.start.identity) list) run.split is.follows) in
       let kinds_are = one set.media (loader_log steps) ∙ (ap (λ (list : List Step). starts_in (loader_log list)) run.split ∙ one_start set.start.identity.hw set.start.identity.pos (generated_part ∷ []) run.more first finish starts) in
       record {
         sessions = one_upload (loader_at set steps).ended (loader_view (loader_at set steps)).live kinds_are (none_live (loader_at set steps).end (loader_at set steps).live whole.quiet.loader) whole.outcome;

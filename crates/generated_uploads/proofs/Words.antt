@@ -3,10 +3,10 @@ use Rattle.std.proofs.Common.{◌≡◌, ℕ, zero, suc, ◌/◌, ◌^◌, ◌<�
 use Rattle.std.specs.Prelude.{codes}
 use Rattle.load_base.specs.Name.{IsName}
 use Rattle.load_base.specs.Text.{IsText}
-use Rattle.load_base.specs.VerdictLaws.{name_faults, text_faults}
+use Rattle.load_base.proofs.VerdictLemmas.{name_faults, text_faults}
 use Rattle.load_base.specs.Verdicts.{name_fault_of, text_fault_of}
 use Rattle.part_number.specs.PartNumber.{IsPartNumberText, check_of, is_good_at}
-use Rattle.part_number.specs.VerdictLaws.{part_faults}
+use Rattle.part_number.proofs.VerdictLemmas.{part_faults}
 use Rattle.part_number.specs.Verdicts.{part_fault_of}
 use Rattle.field_grammar.specs.Grammar.{IsBytes}
 use Rattle.media_build.specs.Generator.{generated, next_state, state_at}

@@ -19,7 +19,7 @@ use Rattle.session_rules.specs.declared.outcome.SessionKind.TheVariants as kinds
 use Rattle.replay_rules.specs.BothEnds.{Setting, loader_at, target_at}
 use Rattle.replay_rules.specs.Histories.{active_by}
 use Rattle.replay_rules.specs.Promises.{NoneGoesDown}
-use Rattle.replay_rules.specs.Runs.{Follows}
+use Rattle.replay_rules.specs.Runs.{TraceFollows}
 use Rattle.run_promises.specs.Listing.{StandingFits}
 use Rattle.run_promises.specs.Promises.{IsWholeRun}
 use Rattle.generated_uploads.specs.GeneratedMedia.{IsGeneratedSet, uploaded_load, generated_part}
@@ -50,7 +50,7 @@ IsOfTrial h = ⊥
 
 -- and nothing else does
 abbrev pub OnlyTrialHappens : Type 0
-OnlyTrialHappens = (set : Setting) (id : Identity) (steps : List Step) → Follows set (trial_script id) steps → AllByRecursion (λ (s : Step). IsOfTrial s.given) steps
+OnlyTrialHappens = (set : Setting) (id : Identity) (steps : List Step) → TraceFollows set (trial_script id) steps → AllByRecursion (λ (s : Step). IsOfTrial s.given) steps
 
 -- A run of this script on the generated set came to its end, at such a target, which didn't go down, and whose interlock
 -- accepts each header that it has to, whatever is kept, and none that it may not.
@@ -62,7 +62,7 @@ pub record IsGeneratedUpload (number : ℕ) (shown : SetView) (set : Setting) (s
   pub fits : StandingFits set.start
   pub can_take : CanTakeGeneratedSet set.start
   pub whole : IsWholeRun set steps
-  pub follows : Follows set (trial_script set.start.identity) steps
+  pub follows : TraceFollows set (trial_script set.start.identity) steps
   pub stays_up : NoneGoesDown steps
 
 -- the only session is an upload that was completed

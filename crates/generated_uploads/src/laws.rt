@@ -1,7 +1,8 @@
 //! What holds of the upload of a generated set. These functions do nothing; their clauses are the
 //! law.
 ghost use Rattle.generated_uploads.specs.GeneratedMedia.{GeneratedMediaAreGood};
-ghost use Rattle.generated_uploads.specs.GeneratedUploads.{GeneratedUploadsComplete, OnlyTrialHappens};
+ghost use Rattle.generated_uploads.specs.GeneratedUploads.{GeneratedUploadsComplete};
+ghost use Rattle.generated_uploads.specs.GeneratedUploads.{OnlyTrialHappens};
 
 use load_header::header_laws;
 use media_lists::{files_list_laws, loads_list_laws};
@@ -26,9 +27,9 @@ pub fn only_a_trial_happens()
     ensures { OnlyTrialHappens }
 {}
 
-/// An upload of the generated set completes, on a target of its hardware whose bank has room for it,
-/// whose sequence number isn't the last and of whose loads none is kept beside it, where the target
-/// doesn't go down.
+/// An upload of the generated set completes, on a target of its hardware whose bank has room for
+/// it, whose sequence number isn't the last and of whose loads none is kept beside it, where the
+/// target doesn't go down.
 pub fn a_generated_upload_completes()
     ensures { GeneratedUploadsComplete }
 {

@@ -21,7 +21,7 @@ fn padded_size(length: usize) -> u64
 }
 
 /// The bytes of a padded text, at most 258.
-#[tactic(auto, using(field_grammar::specs::SectionLaws::size_padded))]
+#[tactic(auto, using(field_grammar::proofs::SectionLemmas::size_padded))]
 pub fn text_size(text: &Text) -> u64
     ensures size { result ≡ spelled_length (padded_fields text.now) }
     ensures small { result ≤ 258 }
@@ -31,7 +31,7 @@ pub fn text_size(text: &Text) -> u64
 }
 
 /// The bytes of a padded file name, at most 66.
-#[tactic(auto, using(field_grammar::specs::SectionLaws::size_padded))]
+#[tactic(auto, using(field_grammar::proofs::SectionLemmas::size_padded))]
 pub fn name_size(name: &Name) -> u64
     ensures size { result ≡ spelled_length (padded_fields name.now) }
     ensures small { result ≤ 66 }
@@ -41,7 +41,7 @@ pub fn name_size(name: &Name) -> u64
 }
 
 /// The bytes of a padded part number, which are 18.
-#[tactic(auto, using(field_grammar::specs::SectionLaws::size_padded, part_number::specs::VerdictLaws::part_size))]
+#[tactic(auto, using(field_grammar::proofs::SectionLemmas::size_padded, part_number::proofs::VerdictLemmas::part_size))]
 pub fn part_size(part: &PartNumber) -> u64
     ensures size { result ≡ spelled_length (padded_fields part.now) }
     ensures small { result ≡ 18 }
@@ -51,7 +51,7 @@ pub fn part_size(part: &PartNumber) -> u64
 }
 
 /// The bytes of a count, 2 bytes, and that many padded texts.
-#[tactic(auto, using(crate::specs::SizeLaws::all_texts))]
+#[tactic(auto, using(crate::proofs::SizeLemmas::all_texts))]
 pub fn texts_size(texts: &[Text]) -> u64
     requires { length texts.now < 65536 }
     ensures size { result ≡ spelled_length (texts_fields texts.now) }
@@ -66,7 +66,7 @@ pub fn texts_size(texts: &[Text]) -> u64
 }
 
 /// The bytes of the section of user data: its length in words, 2 bytes, and the bytes.
-#[tactic(auto, using(crate::specs::SizeLaws::size_user))]
+#[tactic(auto, using(crate::proofs::SizeLemmas::size_user))]
 pub fn user_size(user: &[u8]) -> u64
     requires { length user.now < 2 ^ 32 }
     ensures size { result ≡ spelled_length (user_fields user.now) }

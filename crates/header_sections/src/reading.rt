@@ -1,6 +1,6 @@
 //! The pieces as they are read.
 ghost use Rattle.std.specs.Prelude.{◌≡◌};
-ghost use Rattle.field_grammar.specs.Answers.{Decodes, Gives};
+ghost use Rattle.field_grammar.specs.Answers.{Decodes, AnswersAs};
 ghost use Rattle.load_base.specs.declared.text.TextFault.TheVariants as texts_faults;
 ghost use Rattle.header_sections.specs.Sections.{text, name, part, texts, text_verdict};
 ghost use Rattle.header_sections.specs.Sections.{name_verdict, part_verdict, start, section_at};
@@ -114,7 +114,7 @@ pub fn read_part(reader: &mut Reader) -> Result<PartNumber, SectionFault>
 }
 
 /// `count` padded texts.
-#[tactic(auto, using(field_grammar::specs::LoopLaws::goes_on, field_grammar::specs::LoopLaws::ends, field_grammar::specs::LoopLaws::is_done, field_grammar::specs::LoopLaws::begins))]
+#[tactic(auto, using(field_grammar::proofs::LoopLemmas::goes_on, field_grammar::proofs::LoopLemmas::ends, field_grammar::proofs::LoopLemmas::is_done, field_grammar::proofs::LoopLemmas::begins))]
 pub fn read_texts(
     alloc: Global,
     reader: &mut Reader,
@@ -129,10 +129,10 @@ pub fn read_texts(
     Ok(texts)
 }
 
-// The text that these bytes are, or the fault of the text whose bytes stand at this offset.
-#[tactic(auto, using(load_base::specs::VerdictLaws::read_judged, load_base::specs::VerdictLaws::refused_judged))]
+/// The text that these bytes are, or the fault of the text whose bytes stand at this offset.
+#[tactic(auto, using(load_base::proofs::VerdictLemmas::read_judged, load_base::proofs::VerdictLemmas::refused_judged))]
 fn text_of(alloc: Global, bytes: &[u8], offset: u64) -> Result<Text, SectionFault>
-    ensures { Gives Memory (λ t. t) result (text_verdict offset bytes.now) }
+    ensures { AnswersAs Memory (λ t. t) result (text_verdict offset bytes.now) }
 {
     match Text::read(alloc, bytes) {
         Ok(text) => Ok(text),
@@ -150,9 +150,9 @@ fn text_refused(fault: TextFault, offset: u64) -> SectionFault
     }
 }
 
-#[tactic(auto, using(load_base::specs::VerdictLaws::read_judged, load_base::specs::VerdictLaws::refused_judged))]
+#[tactic(auto, using(load_base::proofs::VerdictLemmas::read_judged, load_base::proofs::VerdictLemmas::refused_judged))]
 fn name_of(bytes: &[u8], offset: u64) -> Result<Name, SectionFault>
-    ensures { Gives Memory (λ t. t) result (name_verdict offset bytes.now) }
+    ensures { AnswersAs Memory (λ t. t) result (name_verdict offset bytes.now) }
 {
     match Name::read(bytes) {
         Ok(name) => Ok(name),
@@ -160,9 +160,9 @@ fn name_of(bytes: &[u8], offset: u64) -> Result<Name, SectionFault>
     }
 }
 
-#[tactic(auto, using(load_base::specs::VerdictLaws::read_judged, load_base::specs::VerdictLaws::refused_judged))]
+#[tactic(auto, using(load_base::proofs::VerdictLemmas::read_judged, load_base::proofs::VerdictLemmas::refused_judged))]
 fn part_of(bytes: &[u8], offset: u64) -> Result<PartNumber, SectionFault>
-    ensures { Gives Memory (λ t. t) result (part_verdict offset bytes.now) }
+    ensures { AnswersAs Memory (λ t. t) result (part_verdict offset bytes.now) }
 {
     match PartNumber::read(bytes) {
         Ok(part) => Ok(part),

@@ -10,7 +10,7 @@ use Rattle.exchange_trace.specs.Posts.{is_undelivered, undelivered, was_delivere
 use Rattle.exchange_trace.specs.Following.{Scene, delivery, delivery_of_first, least_delivery}
 use Rattle.link_net.specs.declared.mail.Fate.{Fate}
 use Rattle.link_net.specs.declared.mail.Fate.TheVariants.{Undelivered, Lost, Delivered}
-use Rattle.link_net.specs.Mail.{IsKept, NamesPosted, after_loss, fate_of, fates_after, given_in}
+use Rattle.link_net.specs.Mail.{AreFatesKept, NamesPosted, after_loss, fate_of, fates_after, given_in}
 
 -- ---- a datagram is posted
 
@@ -20,8 +20,8 @@ one_undelivered [] (suc k) = refl
 one_undelivered (fate ∷ fates) zero = refl
 one_undelivered (fate ∷ fates) (suc k) = one_undelivered fates k
 
-pub keeps_posted : (count : ℕ) (fates : List Fate) (least : ℕ) (given : List HappeningView) → IsKept count fates least given
-    → IsKept (count + 1) (fates ++ Undelivered ∷ []) least given
+pub keeps_posted : (count : ℕ) (fates : List Fate) (least : ℕ) (given : List HappeningView) → AreFatesKept count fates least given
+    → AreFatesKept (count + 1) (fates ++ Undelivered ∷ []) least given
 keeps_posted count fates least given h =
     let counted = h.counted in
     let within = h.within in
@@ -83,7 +83,7 @@ record IsMarked (count : ℕ) (fates : List Fate) (least : ℕ) (given : List Ha
   kept : (k : ℕ) → get_or fates k Undelivered ≡ fate_of given (k + 1)
   before : (k : ℕ) → k < least → is_undelivered given (k + 1) ≡ false
 
-marked : (count : ℕ) (fates : List Fate) (least : ℕ) (given : List HappeningView) (g : HappeningView) → IsKept count fates least given → NamesPosted count g
+marked : (count : ℕ) (fates : List Fate) (least : ℕ) (given : List HappeningView) (g : HappeningView) → AreFatesKept count fates least given → NamesPosted count g
     → IsMarked count (fates_after fates g) least (g ∷ given)
 marked count fates least given (happenings.Delivered side n) is named =
     let counted = is.counted in
@@ -137,9 +137,9 @@ other_fate true y e = refl
 
 -- where the first undelivered datagram is looked for from the one that was it before, those that are passed over aren't
 -- undelivered
-pub keeps_given : (count : ℕ) (fates : List Fate) (least at : ℕ) (given : List HappeningView) (g : HappeningView) → IsKept count fates least given → NamesPosted count g
+pub keeps_given : (count : ℕ) (fates : List Fate) (least at : ℕ) (given : List HappeningView) (g : HappeningView) → AreFatesKept count fates least given → NamesPosted count g
     → at ≤ count → ((k : ℕ) → least ≤ k → k < at → get_or (fates_after fates g) k Undelivered ≢ Undelivered) → get_or (fates_after fates g) at Undelivered ≡ Undelivered
-    → IsKept count (fates_after fates g) at (g ∷ given)
+    → AreFatesKept count (fates_after fates g) at (g ∷ given)
 keeps_given count fates least at given g is named le passed found =
     record { counted = now.counted; kept = now.kept; within = le; before = λ k lt. by k lt (nat_lt k least) refl; found = found }
   where
@@ -152,9 +152,9 @@ keeps_given count fates least at given g is named le passed found =
         other_fate (was_delivered (k + 1) (g ∷ given)) (was_lost (k + 1) (g ∷ given)) (λ undelivered. passed k (ltb-false _ _ e) lt (now.kept k ∙ undelivered))
 
 -- the same of a slice of the fates, as the code looks at it
-pub next_of : (count : ℕ) (fates slice : List Fate) (least at : ℕ) (given : List HappeningView) (g : HappeningView) → IsKept count fates least given → NamesPosted count g
+pub next_of : (count : ℕ) (fates slice : List Fate) (least at : ℕ) (given : List HappeningView) (g : HappeningView) → AreFatesKept count fates least given → NamesPosted count g
     → slice ≡ fates_after fates g → at ≤ length slice → ((k : ℕ) → least ≤ k → k < at → get_or slice k Undelivered ≢ Undelivered)
-    → (at < length slice → get_or slice at Undelivered ≡ Undelivered) → IsKept count (fates_after fates g) at (g ∷ given)
+    → (at < length slice → get_or slice at Undelivered ≡ Undelivered) → AreFatesKept count (fates_after fates g) at (g ∷ given)
 next_of count fates slice least at given g is named same le passed found =
     keeps_given count fates least at given g is named (omega (arith, le, ap length same, counted)) (λ k low high. subst (λ fs. get_or fs k Undelivered ≢ Undelivered) same (passed k low high))
     (subst (λ fs. get_or fs at Undelivered ≡ Undelivered) same (by (nat_lt at (length slice)) refl))
@@ -169,7 +169,7 @@ next_of count fates slice least at given g is named same le passed found =
     by true e = found (ltb-true _ _ e)
     by false e = get_or_past slice at Undelivered (ltb-false _ _ e)
 
-module _ (count : ℕ) (fates : List Fate) (at : ℕ) (given : List HappeningView) (is : IsKept count fates at given) where
+module _ (count : ℕ) (fates : List Fate) (at : ℕ) (given : List HappeningView) (is : AreFatesKept count fates at given) where
   passed_all : undelivered count given ≡ filter (is_undelivered given) (range_with_len (1 + at) (count - at))
   passed_all =
       passed_over (is_undelivered given) 1 count at is.within (λ k lt. let e : k + 1 ≡ 1 + k = omega arith in subst (λ n. is_undelivered given n ≡ false) e (is.before k lt))
@@ -185,7 +185,7 @@ module _ (count : ℕ) (fates : List Fate) (at : ℕ) (given : List HappeningVie
       let last : suc (count - at - 1) - 1 ≡ count - at - 1 = omega arith in
       (filter (is_undelivered given) (range_with_len (at + 1 + 1) (count - at - 1)), passed_all ∙ rw (more, e, found, last) refl)
 
-module _ (s : Scene) (fates : List Fate) (at : ℕ) (is : IsKept (length s.posted) fates at s.happenings) where
+module _ (s : Scene) (fates : List Fate) (at : ℕ) (is : AreFatesKept (length s.posted) fates at s.happenings) where
   pub least_none : at ≡ length s.posted → least_delivery s ≡ None
   least_none e = ap (delivery_of_first s) (none_left (length s.posted) fates at s.happenings is e)
 

@@ -5,3 +5,4 @@ pub mod Parts
 pub mod Readings
 pub mod Sides
 pub mod Turns
+pub mod FollowedLemmas

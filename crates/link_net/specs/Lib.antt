@@ -5,4 +5,3 @@ pub mod Mail
 pub mod Plans
 pub mod FailLink
 pub mod Followed
-pub mod FollowedLaws

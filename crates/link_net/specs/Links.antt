@@ -23,16 +23,16 @@ abbrev pub with_posted : LinkState → DatagramView → LinkState
 with_posted link d = record { posted = link.posted ++ d ∷ []; given = link.given; plan = link.plan }
 
 -- A link that follows a script gives what that gives next.
-abbrev pub Follows : Scene → Option Plan → HappeningView → Option Plan → Type 0
-Follows s None h left = left ≡ None
-Follows s (Some plan) h left = (h ≡ (next_turn s plan).given) × (left ≡ Some (next_turn s plan).plan)
+abbrev pub LinkFollows : Scene → Option Plan → HappeningView → Option Plan → Type 0
+LinkFollows s None h left = left ≡ None
+LinkFollows s (Some plan) h left = (h ≡ (next_turn s plan).given) × (left ≡ Some (next_turn s plan).plan)
 
 -- The link gives one happening. What is delivered to a side was posted to it.
-pub record Gives (old new : LinkState) (s : Scene) (h : HappeningView) : Type 0 where
+pub record LinkGives (old new : LinkState) (s : Scene) (h : HappeningView) : Type 0 where
   pub posted : new.posted ≡ old.posted
   pub given : new.given ≡ h ∷ old.given
   pub honest : IsHonest old.posted h
-  pub follows : Follows s old.plan h new.plan
+  pub follows : LinkFollows s old.plan h new.plan
 
 -- The count of faults hasn't fallen. A call that failed raised it, by one, and no other did.
 pub record HasLinkCause {T : Type 0} (before now : ℕ) (result : Result T LinkFault) : Type 0 where

@@ -27,7 +27,7 @@ fate_of given number =
     else Undelivered
 
 -- the fate of each datagram is kept, and which is the first undelivered one
-pub record IsKept (count : ℕ) (fates : List Fate) (least : ℕ) (given : List HappeningView) : Type 0 where
+pub record AreFatesKept (count : ℕ) (fates : List Fate) (least : ℕ) (given : List HappeningView) : Type 0 where
   pub counted : length fates ≡ count
   pub kept : (k : ℕ) → slice_index_or fates k Undelivered ≡ fate_of given (k + 1)
   pub within : least ≤ count
@@ -45,7 +45,7 @@ given_in log = reverse (map (λ entry. happening_view entry.0) log)
 -- The side of each datagram is kept, its fate, and which is the first undelivered one.
 pub record KeepsMail (log : List (Datagram × Unit {0})) (sides : List Side) (fates : List Fate) (least : ℕ) (given : List HappeningView) : Type 0 where
   pub each_side : sides ≡ map (λ entry. entry.0.from_side) log
-  pub each_fate : IsKept (length sides) fates least given
+  pub each_fate : AreFatesKept (length sides) fates least given
 
 -- what is given names a datagram that was posted, if it names one
 abbrev pub NamesPosted : (count : ℕ) → HappeningView → Type 0

@@ -1,7 +1,7 @@
 //! A link that follows a script, and fails where it is told to.
 ghost use Rattle.std.specs.Prelude.{◌≡◌, ◌↔◌, ◌∷◌, ◌++◌, [], IfOk, OnOk, OnErr, IsErrOf};
 ghost use Rattle.exchange_trace.specs.Happenings.{datagram_view, happening_view};
-ghost use Rattle.link_net.specs.Links.{Gives, HasLinkCause, scene_of, with_posted};
+ghost use Rattle.link_net.specs.Links.{LinkGives, HasLinkCause, scene_of, with_posted};
 
 use crate::link::{Link, LinkFault};
 use crate::script_link::ScriptLink;
@@ -76,7 +76,7 @@ impl Link for FailLink {
     }
 
     fn next(&mut self, loader_waits: bool, target_waits: bool) -> Result<Happening, LinkFault>
-        ensures ok { IfOk result (λ happening. Gives (link_in self.old) (link_in self.new)
+        ensures ok { IfOk result (λ happening. LinkGives (link_in self.old) (link_in self.new)
             (scene_of (link_in self.old) loader_waits target_waits) (happening_view happening)) }
         ensures err { OnErr result (link_in self.new ≡ link_in self.old) }
         ensures cause { HasLinkCause (faults_of self.old) (faults_of self.new) result }

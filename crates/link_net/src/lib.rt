@@ -13,7 +13,7 @@ mod number;
 mod script;
 mod script_link;
 pub mod turn;
-mod values;
+pub mod values;
 pub mod words;
 
 pub use exchange_trace::{Datagram, Happening, ScriptFault, Side};

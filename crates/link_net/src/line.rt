@@ -3,7 +3,7 @@ ghost use Rattle.std.specs.Prelude.{◌≡◌, ◌==◌, option_map, option_copi
 ghost use Rattle.std.specs.List.{slice_split};
 ghost use Rattle.exchange_trace.specs.Scripts as scripts;
 ghost use Rattle.exchange_trace.specs.declared.fault.ScriptFault.TheVariants.{Memory};
-ghost use Rattle.field_grammar.specs.Answers.{Gives};
+ghost use Rattle.field_grammar.specs.Answers.{AnswersAs};
 ghost use Rattle.link_net.specs.Lines.{line_view};
 ghost use Rattle.link_net.specs.Reading.{count_of as only_count, keyword_view};
 ghost use Rattle.link_net.specs.Reading.{only_word, words_of};
@@ -17,7 +17,7 @@ use load_base::{Ident, List, PartText};
 use std::alloc::Global;
 
 /// The most parts of an upload.
-const MOST_PARTS: usize = 64;
+const MOST_PARTS_OF_A_LINE: usize = 64;
 
 /// What a line says (docs/FORMATS.md, "Script").
 #[derive(Drop)]
@@ -43,7 +43,8 @@ pub enum Line {
     Tick(Side),
     /// This datagram, which nobody posted, is delivered to the other side than it names.
     Inject(Datagram),
-    /// The disk loses power at the call of this number, or at once at 0, as the second number picks.
+    /// The disk loses power at the call of this number, or at once at 0, as the second number
+    /// picks.
     Power {
         calls: u32,
         pick: u32,
@@ -82,7 +83,7 @@ pub fn is_passed_over(text: &[u8]) -> bool
 
 /// What the line of this number says, or the first fault in it.
 pub fn read_line(alloc: Global, line: u64, text: &[u8]) -> Result<Line, ScriptFault>
-    ensures { Gives Memory line_view result
+    ensures { AnswersAs Memory line_view result
         (scripts.words_said line (slice_split (λ byte. byte == 32) text.now)) }
 {
     let (first, rest) = cut(text, b' ');
@@ -100,7 +101,8 @@ pub fn line_of(
     keyword: Keyword,
     rest: Option<&[u8]>,
 ) -> Result<Line, ScriptFault>
-    ensures { Gives Memory line_view result (scripts.by_keyword line (Some (keyword_view keyword))
+    ensures { AnswersAs Memory line_view result (scripts.by_keyword line (Some
+        (keyword_view keyword))
         (words_of (option_copied rest.entry))) }
 {
     match keyword {
@@ -120,7 +122,7 @@ pub fn line_of(
 
 #[tactic(auto, using(crate::proofs::Parts::info_words))]
 fn info_of(line: u64, rest: Option<&[u8]>) -> Result<Line, ScriptFault>
-    ensures { Gives Memory line_view result
+    ensures { AnswersAs Memory line_view result
         (scripts.line_said line scripts.info (words_of (option_copied rest.entry))) }
 {
     let Some((hw, pos)) = only_two_in(rest) else {
@@ -131,16 +133,16 @@ fn info_of(line: u64, rest: Option<&[u8]>) -> Result<Line, ScriptFault>
     Ok(Line::Info { hw, pos })
 }
 
-// The number of words is tested before any of them.
+/// The number of words is tested before any of them.
 #[tactic(auto, using(crate::proofs::Parts::upload_words))]
 fn upload_of(alloc: Global, line: u64, rest: Option<&[u8]>) -> Result<Line, ScriptFault>
-    ensures { Gives Memory line_view result
+    ensures { AnswersAs Memory line_view result
         (scripts.line_said line scripts.upload (words_of (option_copied rest.entry))) }
 {
     let Some((hw, pos, parts)) = more_than_two_in(rest) else {
         return Err(ScriptFault::Word(line));
     };
-    if word_count(parts) > MOST_PARTS {
+    if word_count(parts) > MOST_PARTS_OF_A_LINE {
         return Err(ScriptFault::Word(line));
     }
     let hw = ident_in(line, hw)?;
@@ -162,7 +164,7 @@ pub fn count_of(line: u64, rest: Option<&[u8]>) -> Result<u32, ScriptFault>
 
 #[tactic(auto, using(crate::proofs::Parts::tick_words))]
 fn tick_of(line: u64, rest: Option<&[u8]>) -> Result<Line, ScriptFault>
-    ensures { Gives Memory line_view result
+    ensures { AnswersAs Memory line_view result
         (scripts.line_said line scripts.tick (words_of (option_copied rest.entry))) }
 {
     match only_word_in(rest) {
@@ -171,10 +173,10 @@ fn tick_of(line: u64, rest: Option<&[u8]>) -> Result<Line, ScriptFault>
     }
 }
 
-// The datagram seems to come from the side that doesn't get it.
+/// The datagram seems to come from the side that doesn't get it.
 #[tactic(auto, using(crate::proofs::Parts::inject_words))]
 fn inject_of(alloc: Global, line: u64, rest: Option<&[u8]>) -> Result<Line, ScriptFault>
-    ensures { Gives Memory line_view result
+    ensures { AnswersAs Memory line_view result
         (scripts.line_said line scripts.inject (words_of (option_copied rest.entry))) }
 {
     let Some((side, from, to, payload)) = only_four_in(rest) else {
@@ -194,7 +196,7 @@ fn inject_of(alloc: Global, line: u64, rest: Option<&[u8]>) -> Result<Line, Scri
 
 #[tactic(auto, using(crate::proofs::Parts::power_words))]
 fn power_of(line: u64, rest: Option<&[u8]>) -> Result<Line, ScriptFault>
-    ensures { Gives Memory line_view result
+    ensures { AnswersAs Memory line_view result
         (scripts.line_said line scripts.power (words_of (option_copied rest.entry))) }
 {
     let Some((calls, pick)) = only_two_in(rest) else {
@@ -207,7 +209,7 @@ fn power_of(line: u64, rest: Option<&[u8]>) -> Result<Line, ScriptFault>
 
 #[tactic(auto, using(crate::proofs::Parts::boot_words))]
 fn boot_of(line: u64, rest: Option<&[u8]>) -> Result<Line, ScriptFault>
-    ensures { Gives Memory line_view result
+    ensures { AnswersAs Memory line_view result
         (scripts.line_said line scripts.boot (words_of (option_copied rest.entry))) }
 {
     match rest {
@@ -218,7 +220,7 @@ fn boot_of(line: u64, rest: Option<&[u8]>) -> Result<Line, ScriptFault>
 
 #[tactic(auto, using(crate::proofs::Parts::blksize_words))]
 fn blksize_of(line: u64, rest: Option<&[u8]>) -> Result<Line, ScriptFault>
-    ensures { Gives Memory line_view result
+    ensures { AnswersAs Memory line_view result
         (scripts.line_said line scripts.blksize (words_of (option_copied rest.entry))) }
 {
     match only_word_in(rest) {
@@ -229,7 +231,7 @@ fn blksize_of(line: u64, rest: Option<&[u8]>) -> Result<Line, ScriptFault>
 
 #[tactic(auto, using(crate::proofs::Parts::finish_words))]
 fn finish_of(line: u64, rest: Option<&[u8]>) -> Result<Line, ScriptFault>
-    ensures { Gives Memory line_view result
+    ensures { AnswersAs Memory line_view result
         (scripts.line_said line scripts.finish (words_of (option_copied rest.entry))) }
 {
     match rest {

@@ -1,7 +1,7 @@
 //! What stands between loader and target.
 ghost use Rattle.std.specs.Prelude.{◌≡◌, ℕ, IfOk, OnOk, OnErr};
 ghost use Rattle.exchange_trace.specs.Happenings.{datagram_view, happening_view};
-ghost use Rattle.link_net.specs.Links.{Gives, HasLinkCause, scene_of, with_posted};
+ghost use Rattle.link_net.specs.Links.{LinkGives, HasLinkCause, scene_of, with_posted};
 
 use exchange_trace::{Datagram, Happening};
 
@@ -42,7 +42,7 @@ pub trait Link {
     /// What happens next, where these sides have a live session. A call that is refused changes
     /// nothing.
     fn next(&mut self, loader_waits: bool, target_waits: bool) -> Result<Happening, LinkFault>
-        ensures ok { IfOk result (λ happening. Gives (state self.old) (state self.new)
+        ensures ok { IfOk result (λ happening. LinkGives (state self.old) (state self.new)
             (scene_of (state self.old) loader_waits target_waits) (happening_view happening)) }
         ensures err { OnErr result (state self.new ≡ state self.old) }
         ensures cause { HasLinkCause (faults self.old) (faults self.new) result };

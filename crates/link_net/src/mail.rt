@@ -28,7 +28,8 @@ pub enum Fate {
 }
 
 /// The datagrams that were posted, with what became of each. The least undelivered one is found
-/// without a search. Of a datagram its side alone is kept: what it carries is kept by who posted it.
+/// without a search. Of a datagram its side alone is kept: what it carries is kept by who posted
+/// it.
 #[derive(Drop)]
 pub struct Mail {
     /// The side that posted each datagram.
@@ -147,7 +148,7 @@ impl Mail {
         self.fates[number as usize - 1]
     }
 
-    // The side that posted the datagram of this number.
+    /// The side that posted the datagram of this number.
     fn side_of(&self, number: u64) -> Option<Side>
         ensures side { result ≡ option_map (λ d. d.side) (numbered self.now.posted number) }
         ensures within { OnSome result ((1 ≤ number) × (number ≤ length self.now.posted)) }
@@ -157,14 +158,14 @@ impl Mail {
     }
 }
 
-// The side that posted the datagram of this index.
+/// The side that posted the datagram of this index.
 fn side_at(sides: &[Side], index: usize) -> Option<Side>
     ensures { result ≡ slice_get sides.now index }
 {
     sides.get(index).copied()
 }
 
-// The fates after what is given.
+/// The fates after what is given.
 fn mark(fates: &mut Vec<Fate>, given: &Happening)
     requires { NamesPosted (length fates.old.items) (happening_view given.now) }
     ensures { fates.new.items ≡ fates_after fates.old.items (happening_view given.now) }
@@ -183,7 +184,7 @@ fn mark(fates: &mut Vec<Fate>, given: &Happening)
     }
 }
 
-// The fate of a datagram that is lost.
+/// The fate of a datagram that is lost.
 fn lost(fate: Fate) -> Fate
     ensures { result ≡ after_loss fate }
 {
@@ -193,7 +194,7 @@ fn lost(fate: Fate) -> Fate
     }
 }
 
-// The index of the first undelivered datagram from this one on, or how many there are.
+/// The index of the first undelivered datagram from this one on, or how many there are.
 fn next_undelivered(fates: &[Fate], from: usize) -> usize
     requires { from ≤ length fates.now }
     ensures later { from ≤ result }

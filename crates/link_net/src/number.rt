@@ -1,5 +1,5 @@
 //! Decimal numbers of a script.
-ghost use Rattle.std.specs.Prelude.{◌≡◌, ◌≤◌, ℕ, IfOk};
+ghost use Rattle.std.specs.Prelude.{◌≡◌, ◌≤◌, IfOk};
 ghost use Rattle.exchange_trace.specs.Scripts.{count_word, number_word, port_word, size_word};
 
 use exchange_trace::{ScriptFault, decimal_in};
@@ -35,7 +35,7 @@ pub fn size_in(line: u64, word: &[u8]) -> Result<Option<u16>, ScriptFault>
     Ok(Some(number_in(line, word, 8, 65464)? as u16))
 }
 
-// A number in this range.
+/// A number in this range.
 fn number_in(line: u64, word: &[u8], low: u32, high: u32) -> Result<u32, ScriptFault>
     ensures said { result ≡ number_word line low high word.now }
     ensures within { IfOk result (λ number. number ≤ high) }

@@ -1,5 +1,6 @@
 //! Scripts as they are read.
-ghost use Rattle.std.specs.Prelude.{◌≡◌, ◌≢◌, ◌⊎◌, ◌≤◌, ℕ, ◌∷◌, [], length, Ok, Err, IsOk, IsErr, IfOk};
+ghost use Rattle.std.specs.Prelude.{◌≡◌, ◌≢◌, ◌⊎◌, ◌≤◌, ℕ, ◌∷◌, [], length, Ok, Err, IsOk, IsErr};
+ghost use Rattle.std.specs.Prelude.{IfOk};
 ghost use Rattle.std.specs.Prelude.{IfErr, OnOk};
 ghost use Rattle.exchange_trace.specs.Lines.{Finish, Upload};
 ghost use Rattle.exchange_trace.specs.declared.fault.ScriptFault.TheVariants.{Memory, Unit};
@@ -84,7 +85,7 @@ impl Script {
     }
 }
 
-// The lines of a text.
+/// The lines of a text.
 fn read_lines(alloc: Global, bytes: &[u8]) -> Result<List<Line>, ScriptFault>
     requires { length bytes.now ≤ 1000000 }
     ensures found { IfOk result (λ lines. lines_said (written_lines bytes.now)
@@ -106,7 +107,7 @@ fn read_lines(alloc: Global, bytes: &[u8]) -> Result<List<Line>, ScriptFault>
     Ok(lines)
 }
 
-// Adds what a line says, unless it is passed over.
+/// Adds what a line says, unless it is passed over.
 fn take_line(
     alloc: Global,
     lines: &mut List<Line>,

@@ -3,7 +3,7 @@ ghost use Rattle.std.specs.Prelude.{◌≡◌, [], Some, IfOk, OnOk, OnErr};
 ghost use Rattle.std.specs.Option.{ForSome};
 ghost use Rattle.exchange_trace.specs.Following.{next_turn as said_turn, plan_of};
 ghost use Rattle.exchange_trace.specs.Happenings.{datagram_view, happening_view};
-ghost use Rattle.link_net.specs.Links.{Gives, HasLinkCause, LinkState, scene_of, with_posted};
+ghost use Rattle.link_net.specs.Links.{LinkGives, HasLinkCause, LinkState, scene_of, with_posted};
 ghost use Rattle.link_net.specs.Plans.{TakesMemory};
 
 use crate::line::Line;
@@ -74,7 +74,7 @@ impl Link for ScriptLink {
     }
 
     fn next(&mut self, loader_waits: bool, target_waits: bool) -> Result<Happening, LinkFault>
-        ensures ok { IfOk result (λ happening. Gives self.old self.new
+        ensures ok { IfOk result (λ happening. LinkGives self.old self.new
             (scene_of self.old loader_waits target_waits) (happening_view happening)) }
         ensures err { OnErr result (self.new ≡ self.old) }
         ensures cause { HasLinkCause 0 0 result }

@@ -64,7 +64,7 @@ pub fn next_turn(
     }
 }
 
-// The first that the lines from this one on give; some give nothing. After the last comes the end.
+/// The first that the lines from this one on give; some give nothing. After the last comes the end.
 fn from_lines(
     alloc: Global,
     lines: &[Line],
@@ -152,7 +152,7 @@ pub fn tick(side: Side) -> Happening
     }
 }
 
-// A line that gives one happening, if any.
+/// A line that gives one happening, if any.
 fn once(given: Option<Happening>) -> Option<Turn>
     ensures { result ≡ option_map (λ g. record { given = g; rest = Rest.Nothing }) given }
 {
@@ -165,7 +165,7 @@ fn once(given: Option<Happening>) -> Option<Turn>
     }
 }
 
-// What is left of a line gives something, or the line is done.
+/// What is left of a line gives something, or the line is done.
 fn goes_on(mail: &Mail, rest: Rest, waiting: Waiting) -> Option<Turn>
     ensures { IsTurn mail.now result
         (following.goes_on (scene_in mail.now waiting.loader waiting.target) (rest_view rest)) }

@@ -2,7 +2,7 @@
 ghost use Rattle.std.specs.Prelude.{◌≡◌, IfOk};
 ghost use Rattle.exchange_trace.specs.Scripts as scripts;
 ghost use Rattle.exchange_trace.specs.declared.fault.ScriptFault.TheVariants.{Memory};
-ghost use Rattle.field_grammar.specs.Answers.{Gives};
+ghost use Rattle.field_grammar.specs.Answers.{AnswersAs};
 ghost use Rattle.link_net.specs.Reading.{words_in};
 
 use crate::words::cut;
@@ -26,7 +26,7 @@ pub fn ident_in(line: u64, word: &[u8]) -> Result<Ident, ScriptFault>
 
 /// The part numbers that the words of a text are.
 pub fn parts_in(alloc: Global, line: u64, text: &[u8]) -> Result<List<PartText>, ScriptFault>
-    ensures { Gives Memory (λ parts. parts.items) result
+    ensures { AnswersAs Memory (λ parts. parts.items) result
         (scripts.part_words line (words_in text.now)) }
 {
     let mut parts = List::new(alloc);
@@ -39,7 +39,8 @@ pub fn parts_in(alloc: Global, line: u64, text: &[u8]) -> Result<List<PartText>,
     Ok(parts)
 }
 
-fn part_in(line: u64, word: &[u8]) -> Result<PartText, ScriptFault>
+/// The part number that the word is.
+pub fn part_in(line: u64, word: &[u8]) -> Result<PartText, ScriptFault>
     ensures { result ≡ scripts.part_word line word.now }
 {
     match PartText::read(word) {
@@ -63,7 +64,7 @@ pub fn side_in(line: u64, word: &[u8]) -> Result<Side, ScriptFault>
 
 /// The bytes that a word writes as hexadecimal digits.
 pub fn payload_in(alloc: Global, line: u64, word: &[u8]) -> Result<Bytes, ScriptFault>
-    ensures { Gives Memory (λ bytes. bytes.items) result (scripts.bytes_word line word.now) }
+    ensures { AnswersAs Memory (λ bytes. bytes.items) result (scripts.bytes_word line word.now) }
 {
     if word.len() < 2 || word.len() > MOST_DIGITS {
         return Err(ScriptFault::Hex(line));

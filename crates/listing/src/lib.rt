@@ -2,8 +2,8 @@
 //! of text.
 //!
 //! Start from [`listing_text`]. Who has no configuration in memory puts the lines one by one. They
-//! are those of docs/FORMATS.md, "Printed text". A call that is out of memory may have put a part of
-//! its line; the text isn't used then.
+//! are those of docs/FORMATS.md, "Printed text". A call that is out of memory may have put a part
+//! of its line; the text isn't used then.
 #![tactic(auto)]
 
 ghost use Rattle.std.specs.Prelude.{◌≡◌, ◌++◌, map, OnOk, IfOk};

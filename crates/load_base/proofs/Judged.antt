@@ -6,7 +6,7 @@ use Rattle.load_base.specs.Name.{IsName, IsNameFault, is_name_byte}
 use Rattle.load_base.specs.PartText.{IsPartText, IsPartTextFault, is_graphic}
 use Rattle.load_base.specs.Text.{IsText, IsTextFault, is_printable}
 use Rattle.load_base.specs.Verdicts.{judged, name_fault_of, text_fault_of, ident_fault_of, part_text_fault_of}
-use Rattle.load_base.specs.VerdictLaws.{name_faults, text_faults, ident_faults, part_text_faults}
+use Rattle.load_base.proofs.VerdictLemmas.{name_faults, text_faults, ident_faults, part_text_faults}
 use Rattle.load_base.specs.declared.ident.IdentFault.{IdentFault}
 use Rattle.load_base.specs.declared.ident.IdentFault.TheVariants as idents
 use Rattle.load_base.specs.declared.name.NameFault.{NameFault}

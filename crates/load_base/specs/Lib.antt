@@ -1,8 +1,6 @@
 pub mod Bytes
-pub mod Cases
 pub mod Config
 pub mod Counts
-pub mod EqualityLaws
 pub mod Failing
 pub mod Host
 pub mod Ident
@@ -14,7 +12,5 @@ pub mod Padded
 pub mod PartText
 pub mod Sink
 pub mod Text
-pub mod TextLaws
-pub mod VerdictLaws
 pub mod Verdicts
 pub mod Written

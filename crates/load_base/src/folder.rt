@@ -25,7 +25,8 @@ pub fn sync_folder<R: Files<File = File>>(rt: &R, folder: &str, has_new: bool) -
     }
 }
 
-/// Syncs what was opened for reading alone. What has no sync, as on read-only media, is passed over.
+/// Syncs what was opened for reading alone. What has no sync, as on read-only media, is passed
+/// over.
 pub fn sync_for_reading(file: &File) -> io::Result<()> {
     match file.sync_all() {
         Err(fault) if has_no_sync(fault.kind()) => Ok(()),
@@ -40,8 +41,8 @@ fn has_no_sync(kind: ErrorKind) -> bool {
     )
 }
 
-// Makes each folder of this path that is missing. The folder above each is synced, also of one that
-// is there: a run that was killed may have made it.
+/// Makes each folder of this path that is missing. The folder above each is synced, also of one
+/// that is there: a run that was killed may have made it.
 pub(crate) fn make_folders<R: Files<File = File>>(rt: &R, path: &str) -> io::Result<()> {
     for end in 1..path.len() {
         if let Some((above, rest)) = path.split_at_checked(end) {

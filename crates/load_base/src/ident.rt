@@ -85,7 +85,7 @@ impl Eq for Ident {
     ghost laws = { nat_list_eq_equiv };
 }
 
-// The offset of the first byte that no Ident has.
+/// The offset of the first byte that no Ident has.
 fn first_bad(bytes: &[u8]) -> Option<usize>
     ensures none { IfNone result (AllGood is_good bytes.now) }
     ensures first { IfSome result (λ offset. IsFirstBad is_good bytes.now offset) }

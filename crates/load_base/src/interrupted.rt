@@ -4,7 +4,7 @@ ghost use Rattle.std.specs.Io.KnownBytes.{ReadConsumes};
 
 use std::io::{self, ErrorKind, Read};
 
-// How often a read that was interrupted is tried again.
+/// How often a read that was interrupted is tried again.
 const TRIES: u32 = 100;
 
 /// Reads once, and where a signal interrupts that again, a hundred times at most.

@@ -14,8 +14,8 @@ use crate::{Ident, List, Name, PartText, Text};
 
 /// Bytes are such a text or have one first fault, which a function computes from them. Out of
 /// memory is no fault of a text. A name, an Ident and a part number are texts.
-/// `specs/VerdictLaws.antt` and `specs/TextLaws.antt` say the same to proofs.
-#[tactic(auto, using(crate::specs::VerdictLaws::name_faults, crate::specs::VerdictLaws::text_faults, crate::specs::VerdictLaws::ident_faults, crate::specs::VerdictLaws::part_text_faults, crate::specs::TextLaws::name_is_text, crate::specs::TextLaws::ident_is_text, crate::specs::TextLaws::part_text_is_text))]
+/// `proofs/VerdictLemmas.antt` and `proofs/TextLemmas.antt` say the same to proofs.
+#[tactic(auto, using(crate::proofs::VerdictLemmas::name_faults, crate::proofs::VerdictLemmas::text_faults, crate::proofs::VerdictLemmas::ident_faults, crate::proofs::VerdictLemmas::part_text_faults, crate::proofs::TextLemmas::name_is_text, crate::proofs::TextLemmas::ident_is_text, crate::proofs::TextLemmas::part_text_is_text))]
 pub fn text_laws()
     ensures names { TellsFaults name_fault_of IsName IsNameFault }
     ensures texts { TellsFaults text_fault_of IsText (λ bytes fault.
@@ -28,7 +28,7 @@ pub fn text_laws()
 {}
 
 /// Names, Idents, part texts and texts are equal where their bytes are.
-#[tactic(auto, using(crate::specs::EqualityLaws::equal_bytes))]
+#[tactic(auto, using(crate::proofs::EqualityLemmas::equal_bytes))]
 pub fn equality_laws()
     ensures names { (one other : Items ℕ)
         → Decides (⟦<Name as PartialEq>⟧.eq one other) (one ≡ other) }
@@ -42,7 +42,7 @@ pub fn equality_laws()
 
 /// Two lists are equal where their members are the same, if members are equal where they are the
 /// same. Their spare capacity may differ.
-#[tactic(auto, using(crate::specs::EqualityLaws::equal_lists))]
+#[tactic(auto, using(crate::proofs::EqualityLemmas::equal_lists))]
 pub fn list_equality_law<T: PartialEq>()
     ensures { ((x y : T) → Decides (T.eq x y) (x ≡ y))
         → (one other : Listed T)

@@ -104,7 +104,7 @@ impl Host for MemHost {
     }
 }
 
-// The bytes that were written last under this name.
+/// The bytes that were written last under this name.
 #[tactic(auto, using(crate::proofs::WrittenFiles::one_more, crate::proofs::WrittenFiles::none_yet))]
 fn last_of<'w>(written: &'w [Written], name: &'w [u8]) -> Option<&'w [u8]>
     ensures { option_map (λ bytes. bytes.now) result ≡ written_files written.now name.now }

@@ -109,7 +109,7 @@ impl Hash for Name {
     }
 }
 
-// The offset of the first byte that no Name has.
+/// The offset of the first byte that no Name has.
 fn first_bad(bytes: &[u8]) -> Option<usize>
     ensures none { IfNone result (AllGood is_good bytes.now) }
     ensures first { IfSome result (λ offset. IsFirstBad is_good bytes.now offset) }

@@ -4,6 +4,7 @@ ghost use Rattle.load_base.specs.Bytes.{AllGood, IsFirstBad};
 ghost use Rattle.load_base.specs.PartText.{IsPartText, IsPartTextFault, is_graphic as is_good};
 ghost use Rattle.load_base.specs.Verdicts.{judged, part_text_fault_of};
 
+use std::hash::{Hash, Hasher};
 use std::marker::Model;
 
 /// Why bytes are no [`PartText`].
@@ -84,7 +85,22 @@ impl Eq for PartText {
     ghost laws = { nat_list_eq_equiv };
 }
 
-// The offset of the first byte that no part number has.
+impl Hash for PartText {
+    ghost use Rattle.std.specs.Hash as fed;
+    ghost use Rattle.std.specs.Cmp.Lexicographic.{bytes_decides};
+    ghost use Rattle.std.proofs.Common.{ap};
+
+    ghost hash_input = { λ part. fed.slice fed.u8 part };
+
+    ghost respects_eq = { λ one other same. ap (fed.slice fed.u8)
+        ((bytes_decides one other).0 same) };
+
+    fn hash<H: Hasher>(&self, state: &mut H) {
+        self.as_slice().hash(state);
+    }
+}
+
+/// The offset of the first byte that no part number has.
 fn first_bad(bytes: &[u8]) -> Option<usize>
     ensures none { IfNone result (AllGood is_good bytes.now) }
     ensures first { IfSome result (λ offset. IsFirstBad is_good bytes.now offset) }

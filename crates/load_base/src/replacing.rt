@@ -5,19 +5,19 @@ use std::fs::{self, File, OpenFile, OpenOptions};
 use std::io::{self, ErrorKind, Write};
 use std::rt::Files;
 
-// What a new file is called in its folder until it is whole. No file of a media set begins so.
+/// What a new file is called in its folder until it is whole. No file of a media set begins so.
 const UNFINISHED: &str = "/.new";
 
-// Linux has no longer paths.
+/// Linux has no longer paths.
 const LONGEST_PATH: usize = 4096;
 
-// The folder that the last file was written into. It is there, and its name is on the medium.
+/// The folder that the last file was written into. It is there, and its name is on the medium.
 pub(crate) type LastFolder = ArrayString<LONGEST_PATH>;
 
-// Gives the file of this name these bytes. They are on the medium, and the name too, once it answers
-// Ok; before that the name has its old file, whole, or none, or the new one. Folders that are missing
-// are made. A link of that name is replaced and never followed; what is neither a file nor a link, as
-// a FIFO, is refused.
+/// Gives the file of this name these bytes. They are on the medium, and the name too, once it
+/// answers Ok; before that the name has its old file, whole, or none, or the new one. Folders that
+/// are missing are made. A link of that name is replaced and never followed; what is neither a file
+/// nor a link, as a FIFO, is refused.
 pub(crate) fn replace_file<R: Files<File = File>>(
     rt: &R,
     last: &mut LastFolder,
@@ -43,7 +43,7 @@ pub(crate) fn replace_file<R: Files<File = File>>(
     }
 }
 
-// The lock of the folder keeps other runs from its unfinished file.
+/// The lock of the folder keeps other runs from its unfinished file.
 fn replace_locked<R: Files<File = File>>(
     rt: &R,
     folder: &str,
@@ -106,7 +106,7 @@ fn write_and_rename<R: Files<File = File>>(
     rt.rename(unfinished, name)
 }
 
-// What a run that was killed left under this name is removed.
+/// What a run that was killed left under this name is removed.
 fn create<R: Files<File = File>>(rt: &R, name: &str) -> io::Result<File> {
     let mut how = OpenOptions::new();
     how.write(true).create_new(true);

@@ -13,7 +13,7 @@ use std::os::unix::fs::FileTypeExt;
 use std::rt::Files;
 use std::str;
 
-// The host reads files in pieces of this many bytes.
+/// The host reads files in pieces of this many bytes.
 const PIECE: usize = 8192;
 
 /// The files of the system, relative to the current folder. A file is absent only where the system
@@ -55,8 +55,8 @@ impl<R: Files<File = File>> Host for StdHost<'_, R> {
         }
     }
 
-    /// It makes missing folders, and is never out of memory. The file is the old one or the new one,
-    /// whole, whenever power is lost, and the new one once it answers Ok.
+    /// It makes missing folders, and is never out of memory. The file is the old one or the new
+    /// one, whole, whenever power is lost, and the new one once it answers Ok.
     fn write(&mut self, name: &[u8], bytes: &[u8]) -> Result<(), WriteFault>
         ensures file { WritesFile None None name.now bytes.now result }
         ensures cause { HasWriteCause self.old.faults self.new.faults result }
@@ -92,7 +92,7 @@ fn open_file<R: Files<File = File>>(rt: &R, name: &str) -> io::Result<File> {
     fs::open(rt, name)
 }
 
-// Each read but the last gives a byte at least.
+/// Each read but the last gives a byte at least.
 fn read_whole<F: Read>(file: &mut F, alloc: Global) -> Result<Bytes, ReadFault>
     ensures limit { IfOk result (λ bytes. length bytes.items ≤ LONGEST_FILE) }
     ensures whole { IfOk result (λ bytes. IfSome (F.remaining file.old)

@@ -64,7 +64,7 @@ impl Text {
     }
 
     /// The name of a file, as a text.
-    #[tactic(auto, using(crate::specs::TextLaws::name_is_text))]
+    #[tactic(auto, using(crate::proofs::TextLemmas::name_is_text))]
     pub fn of_name(alloc: Global, name: &Name) -> Result<Text, NoMemory>
         ensures { IfOk result (λ text. text ≡ name.now) }
     {
@@ -72,7 +72,7 @@ impl Text {
     }
 
     /// The name of a target or of its hardware or position, as a text.
-    #[tactic(auto, using(crate::specs::TextLaws::ident_is_text))]
+    #[tactic(auto, using(crate::proofs::TextLemmas::ident_is_text))]
     pub fn of_ident(alloc: Global, ident: &Ident) -> Result<Text, NoMemory>
         ensures { IfOk result (λ text. text ≡ ident.now) }
     {
@@ -80,7 +80,7 @@ impl Text {
     }
 
     /// A part number, as a text.
-    #[tactic(auto, using(crate::specs::TextLaws::part_text_is_text))]
+    #[tactic(auto, using(crate::proofs::TextLemmas::part_text_is_text))]
     pub fn of_part(alloc: Global, part: &PartText) -> Result<Text, NoMemory>
         ensures { IfOk result (λ text. text ≡ part.now) }
     {
@@ -142,7 +142,7 @@ fn copy_of(alloc: Global, bytes: &[u8]) -> Result<Text, NoMemory>
     Ok(Text::of_printable(copy))
 }
 
-// The offset of the first byte that no Text has.
+/// The offset of the first byte that no Text has.
 fn first_bad(bytes: &[u8]) -> Option<usize>
     ensures none { IfNone result (AllGood is_good bytes.now) }
     ensures first { IfSome result (λ offset. IsFirstBad is_good bytes.now offset) }

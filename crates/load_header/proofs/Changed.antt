@@ -12,10 +12,10 @@ use Rattle.part_number.specs.PartNumber.{IsPartNumberText}
 use Rattle.field_grammar.specs.Grammar.{IsBytes}
 use Rattle.field_grammar.specs.Spelling.{spelled_length}
 use Rattle.field_grammar.specs.Fields.{number_bytes, number_fields, padded_fields}
-use Rattle.field_grammar.specs.NumberLaws.{length_number_bytes}
-use Rattle.field_grammar.specs.SectionLaws.{size_more, size_number}
+use Rattle.field_grammar.proofs.NumberLemmas.{length_number_bytes}
+use Rattle.field_grammar.proofs.SectionLemmas.{size_more, size_number}
 use Rattle.header_sections.specs.SectionFields.{texts_fields, user_fields}
-use Rattle.header_sections.specs.SizeLaws.{size_entries, total_of}
+use Rattle.header_sections.proofs.SizeLemmas.{size_entries, total_of}
 use Rattle.load_header.specs.Header.{HeaderView, HardwareAtView}
 use Rattle.load_header.specs.HeaderFields.{positions_fields, file_body_fields, files_fields, type_fields, pointers_of, head_fields, identity_fields, targets_fields, all_files_fields, sections_fields, covered_fields, header_fields, header_size, AreTexts, IsHardwareAt, IsHeaderFile, IsHeader, HeaderSpells}
 use Rattle.load_header.specs.HeaderChanges.{file_texts, HaveSameTexts, HasFileNumbers, HasNumbers, with_load_crc}

@@ -4,16 +4,16 @@ use Rattle.std.specs.List.{concat, AllByRecursion}
 use Rattle.std.proofs.lemmas.Bool.{eqb-true}
 use Rattle.std.proofs.lemmas.List.{append-nil}
 use Rattle.crc_fields.specs.CheckSums.{crc16_of}
-use Rattle.crc_fields.specs.WidthLaws.{crc16_fits}
+use Rattle.crc_fields.proofs.WidthLemmas.{crc16_fits}
 use Rattle.load_base.specs.Text.{IsText}
 use Rattle.part_number.specs.PartNumber.{IsPartNumberText}
 use Rattle.field_grammar.specs.Spelling.{spelled_length, IsPlacedBy}
 use Rattle.field_grammar.specs.Fields.{number_fields, padded_fields}
-use Rattle.field_grammar.specs.PlacedLaws.{placed-renamed}
-use Rattle.field_grammar.specs.SectionLaws.{offset_after}
+use Rattle.field_grammar.proofs.PlacedLemmas.{placed-renamed}
+use Rattle.field_grammar.proofs.SectionLemmas.{offset_after}
 use Rattle.header_sections.specs.Sections.{user_data}
 use Rattle.header_sections.specs.SectionFields.{texts_fields, user_fields, IsUserData}
-use Rattle.header_sections.specs.SectionLaws.{placed-user_data, placed-end}
+use Rattle.header_sections.proofs.SectionLemmas.{placed-user_data, placed-end}
 use Rattle.load_header.specs.Header.{HardwareAtView, refused, shared, identity, targets, all_files, no_check_value, check_sums, tail}
 use Rattle.load_header.specs.HeaderFields.{positions_fields, files_fields, AreTexts, IsHardwareAt, IsHeaderFile}
 use Rattle.load_header.specs.declared.header.FileEntry.{FileEntry}

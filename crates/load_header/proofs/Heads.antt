@@ -5,10 +5,10 @@ use Rattle.std.proofs.lemmas.List.{append-nil}
 use Rattle.field_grammar.specs.Grammar.{Follows}
 use Rattle.field_grammar.specs.Spelling.{spelled_length, IsSpelledBy, IsPlacedBy}
 use Rattle.field_grammar.specs.Fields.{number_fields}
-use Rattle.field_grammar.specs.PlacedLaws.{placed-renamed}
-use Rattle.field_grammar.specs.NumberLaws.{length_number_bytes}
+use Rattle.field_grammar.proofs.PlacedLemmas.{placed-renamed}
+use Rattle.field_grammar.proofs.NumberLemmas.{length_number_bytes}
 use Rattle.header_sections.specs.Sections.{start}
-use Rattle.header_sections.specs.SectionLaws.{placed-start}
+use Rattle.header_sections.proofs.SectionLemmas.{placed-start}
 use Rattle.load_header.specs.Header.{refused, shared, four, pointers, head}
 use Rattle.load_header.specs.HeaderFields.{pointers_fields, head_fields}
 use Rattle.load_header.specs.declared.reading.Pointers.{Pointers}

@@ -16,8 +16,8 @@ use Rattle.load_header.specs.declared.header.HardwareAt.{HardwareAt}
 use Rattle.load_header.specs.declared.header.LoadHeader.{LoadHeader}
 use Rattle.load_header.specs.declared.measuring.Sizes.{Sizes}
 use Rattle.header_sections.specs.SectionFields.{texts_fields, HaveDistances}
-use Rattle.header_sections.specs.SizeLaws.{size_user}
-use Rattle.field_grammar.specs.SectionLaws.{size_more, size_number, size_padded}
+use Rattle.header_sections.proofs.SizeLemmas.{size_user}
+use Rattle.field_grammar.proofs.SectionLemmas.{size_more, size_number, size_padded}
 use Rattle.load_header.proofs.Sizes.{size_body}
 
 both : (a b : Bool) → (a && b) ≡ true → (a ≡ true) × (b ≡ true)

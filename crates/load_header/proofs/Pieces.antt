@@ -9,15 +9,15 @@ use Rattle.part_number.specs.PartNumber.{IsPartNumberText}
 use Rattle.field_grammar.specs.Grammar.{renamed, listed}
 use Rattle.field_grammar.specs.Spelling.{spelled_length, IsSpelledBy, IsPlacedBy, listed_fields, AllPlaced}
 use Rattle.field_grammar.specs.Fields.{number, number_fields, padded_fields}
-use Rattle.field_grammar.specs.CombinedLaws.{spelled-as, spelled-renamed, spelled-counted, spelled-measured}
-use Rattle.field_grammar.specs.ListedLaws.{placed-listed}
-use Rattle.field_grammar.specs.PlacedLaws.{placed, placed-renamed}
-use Rattle.field_grammar.specs.NumberLaws.{wide2, wide4, wide8, spelled-number}
-use Rattle.field_grammar.specs.SectionLaws.{size_number}
+use Rattle.field_grammar.proofs.CombinedLemmas.{spelled-as, spelled-renamed, spelled-counted, spelled-measured}
+use Rattle.field_grammar.proofs.ListedLemmas.{placed-listed}
+use Rattle.field_grammar.proofs.PlacedLemmas.{placed, placed-renamed}
+use Rattle.field_grammar.proofs.NumberLemmas.{wide2, wide4, wide8, spelled-number}
+use Rattle.field_grammar.proofs.SectionLemmas.{size_number}
 use Rattle.header_sections.specs.Sections.{text, name, part, section_at, distance_of}
 use Rattle.header_sections.specs.SectionFields.{texts_fields, entry_size, entry_fields, entry_fields_after, entries_fields}
-use Rattle.header_sections.specs.SectionLaws as texts
-use Rattle.header_sections.specs.SectionLaws.{placed-section_at}
+use Rattle.header_sections.proofs.SectionLemmas as texts
+use Rattle.header_sections.proofs.SectionLemmas.{placed-section_at}
 use Rattle.load_header.specs.Header.{named, refused, shared, u16, u32, counted_texts, hardware_at, positions, file_size, file_body, file_entry, entry_after, files, HardwareAtView}
 use Rattle.load_header.specs.HeaderFields.{hardware_at_fields, positions_fields, file_body_fields, files_fields, AreTexts, IsHardwareAt, IsHeaderFile}
 use Rattle.load_header.specs.declared.fault.HeaderFault.TheVariants as faults

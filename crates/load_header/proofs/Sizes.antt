@@ -3,12 +3,12 @@ use Rattle.std.proofs.Common.{◌≡◌, ◌+◌, ◌%◌, List, length, arith, 
 use Rattle.std.specs.List.{flat_map}
 use Rattle.field_grammar.specs.Spelling.{spelled_length}
 use Rattle.field_grammar.specs.Fields.{number_fields, padded_fields}
-use Rattle.field_grammar.specs.NumberLaws.{length_number_bytes}
-use Rattle.field_grammar.specs.TextLaws.{length_pad_bytes}
-use Rattle.field_grammar.specs.SectionLaws.{size_more, size_number, size_padded}
+use Rattle.field_grammar.proofs.NumberLemmas.{length_number_bytes}
+use Rattle.field_grammar.proofs.TextLemmas.{length_pad_bytes}
+use Rattle.field_grammar.proofs.SectionLemmas.{size_more, size_number, size_padded}
 use Rattle.load_header.specs.Header.{HeaderView, HardwareAtView}
 use Rattle.header_sections.specs.SectionFields.{texts_fields, entry_size}
-use Rattle.header_sections.specs.SizeLaws.{even_all, even_padded, even_texts, size_user, size_entries, even_total}
+use Rattle.header_sections.proofs.SizeLemmas.{even_all, even_padded, even_texts, size_user, size_entries, even_total}
 use Rattle.load_header.specs.HeaderFields.{hardware_at_fields, positions_fields, file_body_fields, files_fields, type_fields, check_offset}
 use Rattle.load_header.specs.declared.header.FileEntry.{FileEntry}
 

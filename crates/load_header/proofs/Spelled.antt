@@ -8,9 +8,9 @@ use Rattle.crc_fields.specs.CheckSums.{crc16_of}
 use Rattle.field_grammar.specs.Grammar.{Follows}
 use Rattle.field_grammar.specs.Spelling.{spelled_length, IsPlacedBy, SpellsWhole}
 use Rattle.field_grammar.specs.Fields.{number_fields, padded_fields}
-use Rattle.field_grammar.specs.SectionLaws.{size_more, size_number, offset_after}
+use Rattle.field_grammar.proofs.SectionLemmas.{size_more, size_number, offset_after}
 use Rattle.header_sections.specs.SectionFields.{texts_fields, user_fields, IsUserData}
-use Rattle.header_sections.specs.SizeLaws.{size_user}
+use Rattle.header_sections.proofs.SizeLemmas.{size_user}
 use Rattle.load_header.specs.Header.{HeaderView, limit, head, header}
 use Rattle.load_header.specs.HeaderFields.{positions_fields, files_fields, type_fields, type_offset, hardware_offset, positions_offset, data_offset, support_offset, user_offset, check_offset, header_size, pointers_of, head_fields, identity_fields, targets_fields, all_files_fields, sections_fields, covered_fields, header_fields, IsHeader}
 use Rattle.load_header.specs.declared.reading.Pointers.{Pointers}

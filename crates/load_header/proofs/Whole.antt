@@ -1,9 +1,9 @@
 -- Nothing stands after a header.
 use Rattle.field_grammar.specs.Grammar.{EndsTheBytes}
-use Rattle.field_grammar.specs.ExactLaws.{ends_renamed, ends_last, ends_before}
+use Rattle.field_grammar.proofs.ExactLemmas.{ends_renamed, ends_last, ends_before}
 use Rattle.crc_fields.specs.CheckSums.{crc16_of}
 use Rattle.header_sections.specs.Sections.{end}
-use Rattle.header_sections.specs.SectionLaws.{ends-end}
+use Rattle.header_sections.proofs.SectionLemmas.{ends-end}
 use Rattle.load_header.specs.Header.{refused, header, tail, check_sums}
 use Rattle.load_header.specs.declared.reading.Pointers.{Pointers}
 

@@ -37,7 +37,7 @@ fn number_bytes(alloc: Global, value: u32) -> Result<Bytes, NoMemory>
     Ok(out.finish())
 }
 
-// All that the check sum of the header covers.
+/// All that the check sum of the header covers.
 fn covered_bytes(alloc: Global, header: &LoadHeader) -> Result<Bytes, NoMemory>
     requires { IsHeader (header_view header.now) }
     ensures { IfOk result (λ bytes. bytes.items
@@ -55,7 +55,7 @@ fn covered_bytes(alloc: Global, header: &LoadHeader) -> Result<Bytes, NoMemory>
     Ok(out.finish())
 }
 
-// The words at which the sections begin.
+/// The words at which the sections begin.
 #[tactic(auto, unfolding(crate::specs::Encoding::pointers_by))]
 fn pointers_of(sizes: Sizes) -> Pointers
     requires { whole_size sizes ≤ 65536 }
@@ -138,7 +138,7 @@ fn put_sections(out: &mut Writer, header: &LoadHeader) -> Result<(), NoMemory>
     Ok(())
 }
 
-#[tactic(auto, using(part_number::specs::VerdictLaws::part_size), unfolding(crate::specs::HeaderFields::identity_fields, crate::specs::HeaderFields::type_fields))]
+#[tactic(auto, using(part_number::proofs::VerdictLemmas::part_size), unfolding(crate::specs::HeaderFields::identity_fields, crate::specs::HeaderFields::type_fields))]
 fn put_identity(out: &mut Writer, header: &LoadHeader) -> Result<(), NoMemory>
     ensures { OnOk result (out.new ≡ out.old ++ concat (identity_fields (header_view header.now))) }
 {

@@ -1,7 +1,7 @@
 //! What a load header holds.
 ghost use Rattle.std.specs.Prelude.{◌≡◌, ◌⊎◌, ◌↔◌, IsTrue, IfOk, IfErr};
 ghost use Rattle.field_grammar.specs.Grammar.{Fault};
-ghost use Rattle.field_grammar.specs.Answers.{Gives};
+ghost use Rattle.field_grammar.specs.Answers.{AnswersAs};
 ghost use Rattle.load_header.specs.Header.{header, header_view, HeaderView};
 ghost use Rattle.load_header.specs.HeaderFields.{IsHeader, HeaderSpells};
 ghost use Rattle.load_header.specs.declared.fault.HeaderFault.{HeaderFault};
@@ -59,12 +59,12 @@ impl LoadHeader {
         ensures found { IfOk result (λ h. HeaderSpells (header_view h) bytes.now) }
         // What is spelled so is read, unless it is out of memory.
         ensures only { (v : HeaderView) → HeaderSpells v bytes.now
-            → Gives Memory header_view result (Ok v) }
+            → AnswersAs Memory header_view result (Ok v) }
         // A refusal is the first fault,
         ensures refused { IfErr result (λ fault. (fault ≡ Memory) ⊎ Fault header bytes.now fault) }
         // and where there is a fault, it is refused so.
         ensures faulty { (fault : HeaderFault) → Fault header bytes.now fault
-            → Gives Memory header_view result (Err fault) }
+            → AnswersAs Memory header_view result (Err fault) }
     {
         header_of(alloc, bytes)
     }

@@ -1,7 +1,7 @@
 //! The decoder of a load header, part by part of its format.
-ghost use Rattle.std.specs.Prelude.{◌≡◌, [], ◌*◌, ◌/◌, ◌+◌, ◌==◌, ◌≤◌, ◌<◌, length, map, IfOk};
+ghost use Rattle.std.specs.Prelude.{◌≡◌, [], ◌/◌, ◌+◌, ◌==◌, ◌≤◌, ◌<◌, length, map, IfOk};
 ghost use Rattle.field_grammar.specs.Grammar.{times, listed};
-ghost use Rattle.field_grammar.specs.Answers.{answer, Decodes, Gives};
+ghost use Rattle.field_grammar.specs.Answers.{answer, Decodes, AnswersAs};
 ghost use Rattle.load_header.specs.Header.{counted_texts, four, pointers, head, identity};
 ghost use Rattle.load_header.specs.Header.{hardware_at, positions, targets, file_size, file_body};
 ghost use Rattle.load_header.specs.Header.{file_entry, entry_after, files, all_files};
@@ -49,7 +49,7 @@ pub(crate) struct Pointers {
 /// The header that the bytes spell, or their first fault.
 #[tactic(auto, unfolding(crate::specs::Header::header))]
 pub(crate) fn header_of(alloc: Global, bytes: &[u8]) -> Result<LoadHeader, HeaderFault>
-    ensures { Gives Memory header_view result (answer header bytes.now) }
+    ensures { AnswersAs Memory header_view result (answer header bytes.now) }
 {
     let mut reader = Reader::new(bytes);
     test_limit(&mut reader)?;
@@ -179,7 +179,7 @@ fn read_positions(alloc: Global, reader: &mut Reader) -> Result<List<HardwareAt>
     Ok(positions)
 }
 
-#[tactic(auto, using(field_grammar::specs::LoopLaws::goes_on_seen, field_grammar::specs::LoopLaws::ends, field_grammar::specs::LoopLaws::is_done, field_grammar::specs::LoopLaws::begins))]
+#[tactic(auto, using(field_grammar::proofs::LoopLemmas::goes_on_seen, field_grammar::proofs::LoopLemmas::ends, field_grammar::proofs::LoopLemmas::is_done, field_grammar::proofs::LoopLemmas::begins))]
 fn read_so_many_positions(
     alloc: Global,
     reader: &mut Reader,
@@ -245,7 +245,7 @@ fn read_files(
     Ok(files)
 }
 
-#[tactic(auto, using(field_grammar::specs::LoopLaws::list_goes_on, field_grammar::specs::LoopLaws::list_ends, field_grammar::specs::LoopLaws::list_is_done))]
+#[tactic(auto, using(field_grammar::proofs::LoopLemmas::list_goes_on, field_grammar::proofs::LoopLemmas::list_ends, field_grammar::proofs::LoopLemmas::list_is_done))]
 fn read_entries(
     alloc: Global,
     reader: &mut Reader,
@@ -265,7 +265,7 @@ fn read_entries(
     Ok(files)
 }
 
-#[tactic(auto, using(field_grammar::specs::MoveLaws::offset_goes_on), unfolding(crate::specs::Header::file_entry))]
+#[tactic(auto, using(field_grammar::proofs::MoveLemmas::offset_goes_on), unfolding(crate::specs::Header::file_entry))]
 fn read_entry(
     alloc: Global,
     reader: &mut Reader,

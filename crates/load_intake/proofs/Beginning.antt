@@ -10,7 +10,7 @@ use Rattle.session_rules.specs.Uploads.{need_of}
 use Rattle.load_intake.specs.declared.place.Place.TheVariants as places
 use Rattle.load_intake.specs.Kept.{IsIntake, intake_of}
 use Rattle.load_intake.specs.States.{WholeView}
-use Rattle.load_intake.specs.Stores.{StoreGoesOn, Has, StaysInStep}
+use Rattle.load_intake.specs.Stores.{StoreGoesOn, StoreHas, StaysInStep}
 use Rattle.load_intake.proofs.Sizes.{head_size}
 
 -- no loads need the four bytes with which a manifest begins
@@ -24,7 +24,7 @@ new_whole request loads = record { request = request; loads = map entry_view loa
 pub new_intake : (request : List Wanted) (loads : List ManifestLoad) (b : Buffer) → loads ≡ [] → 1 ≤ length request → length request ≤ 32 → IsIntake (intake_of (new_whole request loads) (places.Header b)) 4
 new_intake request loads b none some few = rw none (record { few = few; left = omega (arith, some); need = need_none; next = tt; holds = omega arith })
 
-pub begins_in_step : (request : List Wanted) (loads : List ManifestLoad) (b : Buffer) (before store : Store) (d e : DiskState) → loads ≡ [] → length request ≤ 32 → Has store [] 0 0 → StoreGoesOn before store d e
+pub begins_in_step : (request : List Wanted) (loads : List ManifestLoad) (b : Buffer) (before store : Store) (d e : DiskState) → loads ≡ [] → length request ≤ 32 → StoreHas store [] 0 0 → StoreGoesOn before store d e
     → StaysInStep (intake_of (new_whole request loads) (places.Header b)) before store d e
 begins_in_step request loads b before store d e none few has goes =
     rw none (record {

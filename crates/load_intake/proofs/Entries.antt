@@ -6,7 +6,7 @@ use Rattle.std.proofs.lemmas.List.Concat.{flat_map-cons}
 use Rattle.std.proofs.lemmas.List.Folds.{concat-append}
 use Rattle.field_grammar.specs.Fields.{number_bytes, number_fields}
 use Rattle.disk_layout.specs.Entries.{entry_bytes}
-use Rattle.disk_layout.specs.EntriesLaws.{entry_bytes_first, entry_bytes_join}
+use Rattle.disk_layout.proofs.EntriesLemmas.{entry_bytes_first, entry_bytes_join}
 use Rattle.disk_layout.specs.Manifest.{LoadEntry, file_entry_fields, load_entry_fields, type_fields}
 use Rattle.disk_layout.specs.declared.manifest.Layout.TheVariants as layouts
 use Rattle.disk_layout.specs.declared.manifest.ManifestFile.{ManifestFile}

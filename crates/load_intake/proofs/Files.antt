@@ -15,11 +15,11 @@ use Rattle.session_rules.specs.declared.reason.Reason.{Reason}
 use Rattle.session_rules.specs.Buffers.{Sums}
 use Rattle.session_rules.specs.TargetRows.{Kept_sums, load_entry_of, said_length}
 use Rattle.session_rules.specs.Uploads.{Next, OpenLoadView, file_reason, files_of, need_of, next_entry, next_number, next_with, or_else, planned_load, unless}
-use Rattle.load_intake.specs.Kept.{IsAccepted, IsIntake, IsOpen, intake_at, named_file, named_files}
+use Rattle.load_intake.specs.Kept.{IsAccepted, IsIntake, IsOpenLoad, intake_at, named_file, named_files}
 use Rattle.load_intake.specs.States.{WholeView, upload_of, with_one}
 use Rattle.load_intake.specs.Keeping.{kept_at}
 use Rattle.bank_store.specs.Known.{KnowsActive}
-use Rattle.load_intake.specs.Stores.{Has, HasAccepted, HasRoomToKeep, IsInStep, with_entry}
+use Rattle.load_intake.specs.Stores.{StoreHas, HasAccepted, HasRoomToKeep, IsInStep, with_entry}
 use Rattle.load_intake.proofs.Steps.{awaits_end}
 
 no_entry : FileEntry
@@ -56,7 +56,7 @@ unfolding entry_after
 entry_short l is = each_short (files_of l.header) (both l.header.data_files l.header.support_files is.data_files is.support_files) (length l.files)
 
 -- what is said of it
-pub said_is : (l : OpenLoadView) (s : Sums) → IsOpen l s → s.said ≡ (entry_after l).length
+pub said_is : (l : OpenLoadView) (s : Sums) → IsOpenLoad l s → s.said ≡ (entry_after l).length
 said_is l s o = o.said ∙ ap said_length (next_is l o.left)
 
 -- ---- it has the length that was said
@@ -70,33 +70,33 @@ count_right n e s y none = eqb-true s.count e.length (by_test (s.count == e.leng
 
 -- ---- the store
 
-pub ends_next : (w : WholeView) (l : OpenLoadView) (s : Sums) (store : Store) → IsOpen l s → IsInStep (intake_at w (Some l) (Kept_sums s)) store → AwaitsEnd store
+pub ends_next : (w : WholeView) (l : OpenLoadView) (s : Sums) (store : Store) → IsOpenLoad l s → IsInStep (intake_at w (Some l) (Kept_sums s)) store → AwaitsEnd store
 ends_next w l s store o step =
     awaits_end store _ _ _ step.has (omega (arith, o.left)) (omega (arith, said_is l s o, entry_short l o.header))
 
-one_less : (store : Store) (loads : List LoadEntry) (n m taken : ℕ) → m < n → Has store loads (n - m) taken → Has store loads (n - (m + 1) + 1) taken
+one_less : (store : Store) (loads : List LoadEntry) (n m taken : ℕ) → m < n → StoreHas store loads (n - m) taken → StoreHas store loads (n - (m + 1) + 1) taken
 one_less store loads n m taken less has =
     let same : n - m ≡ n - (m + 1) + 1 = omega (arith, less) in
-    subst (λ (k : ℕ). Has store loads k taken) same has
+    subst (λ (k : ℕ). StoreHas store loads k taken) same has
 
 -- what the store has before the file ends
-pub before_end : (w : WholeView) (l : OpenLoadView) (s : Sums) (store : Store) → IsOpen l s → s.count ≡ (entry_after l).length → IsInStep (intake_at w (Some l) (Kept_sums s)) store
-    → Has store (w.loads ++ load_entry_of l ∷ []) (length (files_of l.header) - (length l.files + 1) + 1) s.count
+pub before_end : (w : WholeView) (l : OpenLoadView) (s : Sums) (store : Store) → IsOpenLoad l s → s.count ≡ (entry_after l).length → IsInStep (intake_at w (Some l) (Kept_sums s)) store
+    → StoreHas store (w.loads ++ load_entry_of l ∷ []) (length (files_of l.header) - (length l.files + 1) + 1) s.count
 before_end w l s store o right step =
     let all : min s.count s.said ≡ s.count = omega (arith, right, said_is l s o) in
-    subst (λ (n : ℕ). Has store (w.loads ++ load_entry_of l ∷ []) (length (files_of l.header) - (length l.files + 1) + 1) n) all
+    subst (λ (n : ℕ). StoreHas store (w.loads ++ load_entry_of l ∷ []) (length (files_of l.header) - (length l.files + 1) + 1) n) all
     (one_less store (w.loads ++ load_entry_of l ∷ []) (length (files_of l.header)) (length l.files) (min s.count s.said) o.left step.has)
 
 pub has_one : (w : WholeView) (l one : OpenLoadView) (file : ManifestFile) (crc size : ℕ) (store : Store) → one ≡ with_one l file crc → file.length ≡ size
-    → Has store (w.loads ++ with_entry (load_entry_of l) file.name size ∷ []) (length (files_of l.header) - (length l.files + 1)) 0
+    → StoreHas store (w.loads ++ with_entry (load_entry_of l) file.name size ∷ []) (length (files_of l.header) - (length l.files + 1)) 0
     → need_of (w.loads ++ planned_load l.wanted l.header l.size ∷ []) ≤ bank_size_of store
     → ((active : List LoadEntry) → KnowsActive store active → HasRoomToKeep store (length w.request) (w.loads ++ planned_load l.wanted l.header l.size ∷ []) (kept_at active (upload_of w None) l.header)) → HasAccepted w one store
 has_one w l one file crc size store is same has fits keeps =
     let more : length l.files + 1 ≡ length (l.files ++ file ∷ []) = sym (length-append l.files (file ∷ [])) in
     rw is (record {
       has =
-          subst (λ (n : ℕ). Has store (w.loads ++ load_entry_of (with_one l file crc) ∷ []) (length (files_of l.header) - n) 0) more
-          (subst (λ (n : ℕ). Has store (w.loads ++ with_entry (load_entry_of l) file.name n ∷ []) (length (files_of l.header) - (length l.files + 1)) 0) (sym same) has);
+          subst (λ (n : ℕ). StoreHas store (w.loads ++ load_entry_of (with_one l file crc) ∷ []) (length (files_of l.header) - n) 0) more
+          (subst (λ (n : ℕ). StoreHas store (w.loads ++ with_entry (load_entry_of l) file.name n ∷ []) (length (files_of l.header) - (length l.files + 1)) 0) (sym same) has);
       fits = fits;
       keeps = keeps;
     })
@@ -107,7 +107,7 @@ next_planned : (l : OpenLoadView) → length l.files < length (files_of l.header
 unfolding entry_after
 next_planned l left = get_or-map named_file (files_of l.header) (length l.files) no_entry (named_file no_entry) left
 
-planned_more : (l : OpenLoadView) (s : Sums) (file : ManifestFile) → IsOpen l s → file ≡ named_file (entry_after l) → l.files ++ file ∷ [] ≡ take (length (l.files ++ file ∷ [])) (named_files l.header)
+planned_more : (l : OpenLoadView) (s : Sums) (file : ManifestFile) → IsOpenLoad l s → file ≡ named_file (entry_after l) → l.files ++ file ∷ [] ≡ take (length (l.files ++ file ∷ [])) (named_files l.header)
 planned_more l s file o is =
     let n = length l.files in
     let within : n < length (named_files l.header) = subst (λ (k : ℕ). n < k) (sym (length-map (files_of l.header) named_file)) o.left in
@@ -118,7 +118,7 @@ planned_more l s file o is =
 
 pub accepts_one : (w : WholeView) (l one : OpenLoadView) (s : Sums) (file : ManifestFile) (crc : ℕ) → IsIntake (intake_at w (Some l) (Kept_sums s)) w.need → one ≡ with_one l file crc → file ≡ named_file (entry_after l) → IsAccepted w one
 accepts_one w l one s file crc i is named =
-    let o : IsOpen l s = i.next in
+    let o : IsOpenLoad l s = i.next in
     rw is (record {
       few = i.few;
       left = i.left;

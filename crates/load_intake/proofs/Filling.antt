@@ -3,7 +3,7 @@ use Rattle.std.proofs.Common.{◌≡◌, true, false, ℕ, ◌-◌, ◌<◌, ◌
 use Rattle.std.proofs.lemmas.List.Elements.{All-nil}
 use Rattle.disk_layout.specs.Contents.{HeaderIsFirst, HeadersAreFirst}
 use Rattle.load_protocol_files.specs.declared.lur.Wanted.{Wanted}
-use Rattle.session_rules.specs.BufferLaws.{taken}
+use Rattle.session_rules.proofs.BufferLemmas.{taken}
 use Rattle.session_rules.specs.Buffers.{Sums, buffered, summed}
 use Rattle.session_rules.specs.Uploads.{OpenLoad, Upload, current_view, next_entry, open_load_view}
 use Rattle.load_base.specs.Config.{LoadView}
@@ -18,8 +18,8 @@ use Rattle.bank_store.specs.Keeps.{Activates, Appends, Begins, Continues, FitsOn
 use Rattle.bank_store.specs.Store.{with_gate_open, with_gate_shut, with_manifest, with_piece, with_slot, manifest_length}
 use Rattle.session_rules.specs.TargetRows.{Kept_bytes, Kept_sums, Over, Reads_file, WholeRow, arriving_load, new_upload, said_length}
 use Rattle.load_intake.specs.declared.down.Down.{Down}
-use Rattle.load_intake.specs.Contents.{AddsAtMost, BringsTo, Gives, InstallsRow, IsGiven, LeavesSealed, OpensGate, given_current, given_load, given_of}
-use Rattle.load_intake.specs.ContentLaws.{adds_both, adds_nothing, adds_old, adds_only, adds_then, beside_continued}
+use Rattle.load_intake.specs.Contents.{AddsAtMost, BringsTo, GivesContents, InstallsRow, IsGiven, LeavesSealed, OpensGate, given_current, given_load, given_of}
+use Rattle.load_intake.proofs.ContentLemmas.{adds_both, adds_nothing, adds_old, adds_only, adds_then, beside_continued}
 
 -- ---- the old configuration alone
 
@@ -37,11 +37,11 @@ beside_on before after old new s now on beside told = record {
 -- ---- what calls give
 
 -- where the disk or memory failed
-pub gives_failed : {T : Type 0} (before after : Store) (old new : DiskState) (s : StandingView) (g : Given) (e : Down) → old.clock ≤ new.clock → LeavesActive before old new → InstallsBeside before old s → Gives {T = T} old after new s g (Err e)
+pub gives_failed : {T : Type 0} (before after : Store) (old new : DiskState) (s : StandingView) (g : Given) (e : Down) → old.clock ≤ new.clock → LeavesActive before old new → InstallsBeside before old s → GivesContents {T = T} old after new s g (Err e)
 gives_failed before after old new s g e later leaves beside = record { adds = leaves_old before old new s later leaves beside; ok = tt }
 
 pub begin_gives : {T : Type 0} (before after : Store) (old new : DiskState) (s : StandingView) (x : T) → Begins before after old new → old.clock ≤ new.clock → LeavesActive before old new → FitsOn before after old new → InstallsBeside before old s
-    → Gives {E = Down} old after new s nothing_given (Ok x)
+    → GivesContents {E = Down} old after new s nothing_given (Ok x)
 begin_gives before after old new s x begins later leaves on beside =
     let told = begins.written beside.image beside.told in
     record {
@@ -50,7 +50,7 @@ begin_gives before after old new s x begins later leaves on beside =
     }
 
 pub append_gives : {T : Type 0} (before after : Store) (old new : DiskState) (s : StandingView) (g : Given) (bytes : List ℕ) (x : T) → Appends before after old new bytes → old.clock ≤ new.clock → LeavesActive before old new → FitsOn before after old new
-    → IsGiven before old s g → Gives {E = Down} old after new s (with_bytes bytes g) (Ok x)
+    → IsGiven before old s g → GivesContents {E = Down} old after new s (with_bytes bytes g) (Ok x)
 append_gives before after old new s g bytes x appends later leaves on is =
     let image = is.beside.image in
     let now = with_piece before is.given.progress bytes image in
@@ -65,7 +65,7 @@ pub gives_more : (before after : Store) (disk : DiskState) (s : StandingView) (g
 gives_more before after disk s g more c given is = record { beside = beside_continued before after disk s c is.beside; given = given is.beside.image is.given }
 
 -- before a call there is one that makes none of the disk, or one that is answered
-pub gives_then : {S T : Type 0} (a b : DiskState) (mid : Store) (c : DiskState) (after : Store) (s : StandingView) (g more : Given) (x : S) (r : Result T Down) → Gives {E = Down} a mid b s g (Ok x) → (IsGiven mid b s g → Gives b after c s more r) → Gives a after c s more r
+pub gives_then : {S T : Type 0} (a b : DiskState) (mid : Store) (c : DiskState) (after : Store) (s : StandingView) (g more : Given) (x : S) (r : Result T Down) → GivesContents {E = Down} a mid b s g (Ok x) → (IsGiven mid b s g → GivesContents b after c s more r) → GivesContents a after c s more r
 gives_then a b mid c after s g more x r one other =
     let next = other one.ok in
     record { adds = adds_both a b c (λ left. HoldsConfig left s) one.adds next.adds; ok = next.ok }
@@ -124,11 +124,11 @@ installs_failed a b mid after s loads r (Err e) err sealed = record { adds = add
 
 -- ---- the same with another answer
 
-pub gives_fails : {S T : Type 0} (old : DiskState) (after other : Store) (new : DiskState) (s : StandingView) (g more : Given) (one : Result S Down) (r : Result T Down) → IsErr r → Gives old after new s g one → Gives old other new s more r
+pub gives_fails : {S T : Type 0} (old : DiskState) (after other : Store) (new : DiskState) (s : StandingView) (g more : Given) (one : Result S Down) (r : Result T Down) → IsErr r → GivesContents old after new s g one → GivesContents old other new s more r
 gives_fails old after other new s g more one (Ok x) err gives = absurd (let wrong : false ≡ true = err in cc)
 gives_fails old after other new s g more one (Err e) err gives = record { adds = gives.adds; ok = tt }
 
-pub gives_so : {S T : Type 0} (old : DiskState) (after : Store) (new : DiskState) (s : StandingView) (g more : Given) (x : S) (y : T) → g ≡ more → Gives {E = Down} old after new s g (Ok x) → Gives {E = Down} old after new s more (Ok y)
+pub gives_so : {S T : Type 0} (old : DiskState) (after : Store) (new : DiskState) (s : StandingView) (g more : Given) (x : S) (y : T) → g ≡ more → GivesContents {E = Down} old after new s g (Ok x) → GivesContents {E = Down} old after new s more (Ok y)
 gives_so old after new s g more x y is gives = rw (sym is) (record { adds = gives.adds; ok = gives.ok })
 
 pub brings_fails : {S T : Type 0} (old : DiskState) (after other : Store) (new : DiskState) (s next : StandingView) (row : WholeRow) (arrived : List ℕ) (one : Result S Down) (r : Result T Down) → IsErr r → BringsTo old after new s next row arrived one
@@ -141,14 +141,14 @@ brings_so old after new s next row arrived x y brings = record { adds = brings.a
 
 -- ---- an upload begins
 
-pub begins_upload : {S T : Type 0} (old : DiskState) (after : Store) (new : DiskState) (s : StandingView) (request : List Wanted) (x : S) (y : T) → Gives {E = Down} old after new s nothing_given (Ok x)
+pub begins_upload : {S T : Type 0} (old : DiskState) (after : Store) (new : DiskState) (s : StandingView) (request : List Wanted) (x : S) (y : T) → GivesContents {E = Down} old after new s nothing_given (Ok x)
     → BringsTo {E = Down} old after new s s (Reads_file (new_upload request)) [] (Ok y)
 begins_upload old after new s request x y gives = record {
   adds = adds_old old new s s gives.adds;
   ok = record { beside = gives.ok.beside; holds = record { given = gives.ok.given; headers = All-nil (λ (l : LoadView). HeaderIsFirst l) } };
 }
 
-pub begin_fails : {S T : Type 0} (old : DiskState) (after other : Store) (new : DiskState) (s next : StandingView) (g : Given) (row : WholeRow) (arrived : List ℕ) (one : Result S Down) (r : Result T Down) → IsErr r → Gives old after new s g one → BringsTo old other new s next row arrived r
+pub begin_fails : {S T : Type 0} (old : DiskState) (after other : Store) (new : DiskState) (s next : StandingView) (g : Given) (row : WholeRow) (arrived : List ℕ) (one : Result S Down) (r : Result T Down) → IsErr r → GivesContents old after new s g one → BringsTo old other new s next row arrived r
 begin_fails old after other new s next g row arrived one (Ok x) err gives = absurd (let wrong : false ≡ true = err in cc)
 begin_fails old after other new s next g row arrived one (Err e) err gives = record { adds = adds_old old new s next gives.adds; ok = tt }
 
@@ -174,7 +174,7 @@ given_more loads said arrived more = ap (λ (bytes : List ℕ). given loads byte
     given : List GivenLoad → List ℕ → Given
     given loads bytes = record { loads = loads; bytes = bytes }
 
-file_adds : {T : Type 0} (old : DiskState) (after : Store) (new : DiskState) (s : StandingView) (u : Upload) (arrived : List ℕ) (g : Given) (r : Result T Down) → HeadersAreFirst u.loads → g ≡ given_of u arrived → Gives old after new s g r
+file_adds : {T : Type 0} (old : DiskState) (after : Store) (new : DiskState) (s : StandingView) (u : Upload) (arrived : List ℕ) (g : Given) (r : Result T Down) → HeadersAreFirst u.loads → g ≡ given_of u arrived → GivesContents old after new s g r
     → BringsTo old after new s s (Reads_file u) arrived r
 file_adds old after new s u arrived g (Ok x) headers is gives = record {
   adds = adds_old old new s s gives.adds;
@@ -183,7 +183,7 @@ file_adds old after new s u arrived g (Ok x) headers is gives = record {
 file_adds old after new s u arrived g (Err e) headers is gives = record { adds = adds_old old new s s gives.adds; ok = tt }
 
 pub file_brings_more : {T : Type 0} (before : Store) (old : DiskState) (after : Store) (new : DiskState) (s : StandingView) (u : Upload) (arrived more : List ℕ) (sums : Sums) (r : Result T Down) → arriving_load (current_view u.current) arrived ≡ Kept_sums sums
-    → InstallsRow before old s (Reads_file u) arrived → ((g : Given) → IsGiven before old s g → Gives old after new s (with_bytes (take (sums.said - sums.count) more) g) r) → BringsTo old after new s s (Reads_file u) (arrived ++ more) r
+    → InstallsRow before old s (Reads_file u) arrived → ((g : Given) → IsGiven before old s g → GivesContents old after new s (with_bytes (take (sums.said - sums.count) more) g) r) → BringsTo old after new s s (Reads_file u) (arrived ++ more) r
 file_brings_more before old after new s u arrived more sums r kept installs gives =
     file_adds old after new s u (arrived ++ more) (with_bytes (take (sums.said - sums.count) more) (given_of u arrived)) r installs.holds.headers (same u.current refl kept)
     (gives (given_of u arrived) (record { beside = installs.beside; given = installs.holds.given }))

@@ -1,13 +1,13 @@
 -- How a store goes on over several calls.
 use Rattle.std.proofs.Common.{◌≡◌, ◌+◌, Result, Ok, Err, IfOk, OnOk, inl, inr, refl, ap, ◌∙◌, arith}
 use Rattle.std.proofs.lemmas.Result.{IfOk-weaker}
-use Rattle.disk_model.specs.MomentLaws.{power_kept}
+use Rattle.disk_model.proofs.MomentLemmas.{power_kept}
 use Rattle.disk_model.specs.State.{DiskState, KeepsCounts}
 use Rattle.bank_store.specs.declared.store.Store.{Store}
 use Rattle.bank_store.specs.DiskWrites.{IsRunning, TimeGoesOn}
 use Rattle.bank_store.specs.Fits.{Fits}
 use Rattle.bank_store.specs.Keeps.{Continues}
-use Rattle.bank_store.specs.KnownLaws.{knows_on}
+use Rattle.bank_store.proofs.KnownLemmas.{knows_on}
 use Rattle.bank_store.specs.Store.{IsPrepared}
 use Rattle.session_rules.specs.TargetRows.{Writes_progress}
 use Rattle.session_rules.specs.Uploads.{UploadView}
@@ -18,7 +18,7 @@ use Rattle.load_intake.specs.declared.ended.UploadEnd.{UploadEnd}
 use Rattle.load_intake.specs.declared.finished.Finished.{Finished}
 use Rattle.load_intake.specs.declared.finished.Finished.TheVariants as finished
 use Rattle.load_intake.specs.Intakes.{BeginsNext, row_seen}
-use Rattle.load_intake.specs.Stores.{Ends, GivesUp, StoreGoesOn, GoesOnInStep, Installs, Leaves, Writes}
+use Rattle.load_intake.specs.Stores.{EndsFile, GivesUp, StoreGoesOn, GoesOnInStep, Installs, Leaves, Writes}
 
 -- a call that makes none of the disk
 pub continued : (before after : Store) (disk : DiskState) → Continues before after → IsRunning disk → StoreGoesOn before after disk disk
@@ -54,7 +54,7 @@ same_on : (store : Store) (disk : DiskState) → IsRunning disk → StoreGoesOn 
 same_on store disk running = record { active = record { size = refl; active = refl; known = refl }; running = running; fits = λ f. f; works = λ w. w }
 
 -- a load is whole, and nothing was written
-pub goes_on_here : (f : Finished) (u : UploadView) (store : Store) (disk : DiskState) → row_seen f ≡ Writes_progress u → BeginsNext f → GoesOnInStep f store → IsRunning disk → Ends f store store disk disk
+pub goes_on_here : (f : Finished) (u : UploadView) (store : Store) (disk : DiskState) → row_seen f ≡ Writes_progress u → BeginsNext f → GoesOnInStep f store → IsRunning disk → EndsFile f store store disk disk
 goes_on_here (finished.MoreFiles intake) u store disk row begins step running = record { begins = begins; leaves = record { in_step = step; goes_on = same_on store disk running } }
 goes_on_here (finished.NextLoad intake) u store disk row begins step running = record { begins = begins; leaves = record { in_step = step; goes_on = same_on store disk running } }
 goes_on_here (finished.Stopped end) u store disk row begins step running = absurd cc
@@ -86,14 +86,14 @@ leaves_after (finished.Installed end loads) a b c d e f first next = record {
   };
 }
 
-pub ends_after : (r : Result Finished Down) (a b c : Store) (d e f : DiskState) → StoreGoesOn a b d e → IfOk r (λ x. Ends x b c e f) → IfOk r (λ x. Ends x a c d f)
-ends_after r a b c d e f first ends = IfOk-weaker r (λ x. Ends x b c e f) (λ x. Ends x a c d f) (λ x h. record { begins = h.begins; leaves = leaves_after x a b c d e f first h.leaves }) ends
+pub ends_after : (r : Result Finished Down) (a b c : Store) (d e f : DiskState) → StoreGoesOn a b d e → IfOk r (λ x. EndsFile x b c e f) → IfOk r (λ x. EndsFile x a c d f)
+ends_after r a b c d e f first ends = IfOk-weaker r (λ x. EndsFile x b c e f) (λ x. EndsFile x a c d f) (λ x h. record { begins = h.begins; leaves = leaves_after x a b c d e f first h.leaves }) ends
 
-pub stops_there : (end : UploadEnd) (before after : Store) (disk : DiskState) → Continues before after → IsPrepared after → IsRunning disk → Ends (finished.Stopped end) before after disk disk
+pub stops_there : (end : UploadEnd) (before after : Store) (disk : DiskState) → Continues before after → IsPrepared after → IsRunning disk → EndsFile (finished.Stopped end) before after disk disk
 stops_there end before after disk c prepared running = record { begins = tt; leaves = gives_up before after disk c prepared running }
 
 -- or after a call that went on
-pub stops_after : (end : UploadEnd) (before mid after : Store) (old new : DiskState) → StoreGoesOn before mid old new → Continues mid after → IsPrepared after → Ends (finished.Stopped end) before after old new
+pub stops_after : (end : UploadEnd) (before mid after : Store) (old new : DiskState) → StoreGoesOn before mid old new → Continues mid after → IsPrepared after → EndsFile (finished.Stopped end) before after old new
 stops_after end before mid after old new first c prepared = record { begins = tt; leaves = leaves_after (finished.Stopped end) before mid after old new new first (gives_up mid after new c prepared first.running) }
 
 -- ---- one call of the disk after another

@@ -4,7 +4,7 @@ use Rattle.std.specs.Prelude.{Bool, nat_le, slice_get, if◌then◌else◌}
 use Rattle.std.proofs.lemmas.Bool.{le-leb, le-ltb, lt-ltb}
 use Rattle.std.proofs.lemmas.Option.{slice_get-get_or}
 use Rattle.field_grammar.specs.Answers.{answer}
-use Rattle.field_grammar.specs.ExactLaws.{answer-spelled, answer-fault, spelled_at_start}
+use Rattle.field_grammar.proofs.ExactLemmas.{answer-spelled, answer-fault, spelled_at_start}
 use Rattle.field_grammar.specs.Grammar.{Spelled, Fault}
 use Rattle.load_header.specs.declared.fault.HeaderFault.{HeaderFault}
 use Rattle.load_header.specs.declared.fault.HeaderFault.TheVariants.{TooLong}
@@ -16,7 +16,7 @@ use Rattle.bank_store.specs.Store.{SameActive, bank_size_of}
 use Rattle.load_header.specs.Header.{HeaderView, header}
 use Rattle.load_header.specs.HeaderFields.{IsHeader}
 use Rattle.load_protocol_files.specs.declared.lur.Wanted.{Wanted}
-use Rattle.part_number.specs.VerdictLaws.{part_size}
+use Rattle.part_number.proofs.VerdictLemmas.{part_size}
 use Rattle.disk_layout.specs.declared.identity.Identity.{Identity}
 use Rattle.disk_layout.specs.Manifest.{FitsALayout, LoadEntry, total_length}
 use Rattle.session_rules.specs.KeptLoads.{told_loads, types_of}
@@ -25,17 +25,17 @@ use Rattle.session_rules.specs.declared.reason.Reason.{Reason}
 use Rattle.session_rules.specs.Buffers.{Buffer, is_too_long}
 use Rattle.session_rules.specs.TargetRows.{Kept_bytes, Reads_file, RowView, Writes_stop, done_move, placed_view, stopped_upload, view_judged, view_moved}
 use Rattle.session_rules.specs.Uploads.{Next, OpenLoadView, UploadView, covered_header, files_of, judge_header, header_reason as reason_of, is_last, judge_spelled_header, load_reason, need_of, next_with, or_else, planned_load}
-use Rattle.load_intake.specs.Judging.{Passes, header_row, loads_known, need_known, refused_for, whole_buffer}
+use Rattle.load_intake.specs.Judging.{PassesStoreTests, header_row, loads_known, need_known, refused_for, whole_buffer}
 use Rattle.load_intake.specs.Keeping.{IsActive, kept_at, kept_with}
 use Rattle.load_intake.specs.Kept.{IsAccepted, IsIntake, intake_at}
 use Rattle.load_intake.specs.Needs.{load_need}
 use Rattle.load_intake.specs.Places.{arrived_at}
 use Rattle.load_intake.specs.States.{WholeView, header_there, needing, upload_of}
 use Rattle.bank_store.specs.Known.{KnowsActive}
-use Rattle.load_intake.specs.Stores.{Has, HasAccepted, HasRoomToKeep, header_alone}
+use Rattle.load_intake.specs.Stores.{StoreHas, HasAccepted, HasRoomToKeep, header_alone}
 use Rattle.load_intake.proofs.Rows.{arrived_is}
 use Rattle.load_intake.proofs.Sizes.{need_planned, needs_more, total_within}
-use Rattle.bank_store.specs.KnownLaws.{knows_on}
+use Rattle.bank_store.proofs.KnownLemmas.{knows_on}
 use Rattle.load_intake.proofs.Staying.{all_listed, knows_same}
 
 -- ---- how many bytes are needed with it
@@ -49,7 +49,7 @@ room_for_header w b wanted h size need bank i is fits = omega (arith, i.need, ap
 
 -- ---- the load with it
 
-pub header_accepted : (w new : WholeView) (b : Buffer) (wanted : Wanted) (h : HeaderView) (size crc need loads all : ℕ) (l : OpenLoadView) (id : Identity) → IsIntake (intake_at w None (Kept_bytes b)) w.need → IsHeader h → Passes id wanted h loads all
+pub header_accepted : (w new : WholeView) (b : Buffer) (wanted : Wanted) (h : HeaderView) (size crc need loads all : ℕ) (l : OpenLoadView) (id : Identity) → IsIntake (intake_at w None (Kept_bytes b)) w.need → IsHeader h → PassesStoreTests id wanted h loads all
     → need ≡ w.need + load_need wanted h size → new ≡ needing w need → l ≡ header_there wanted h size crc → IsAccepted new l
 header_accepted w new b wanted h size crc need loads all l id i is passes needs made there =
     rw (made, there) (record {
@@ -72,8 +72,8 @@ need_at active w wanted h size need fits is = by_last (is_last (upload_of w None
     by_last false e = rw e (omega (arith, is, ap need_of (append-nil (w.loads ++ planned_load wanted h size ∷ []))))
 
 pub has_header : (active : List LoadEntry) (w new : WholeView) (b : Buffer) (wanted : Wanted) (h : HeaderView) (size crc need : ℕ) (l : OpenLoadView) (id : Identity) (old store : Store) → IsIntake (intake_at w None (Kept_bytes b)) w.need → IsHeader h
-    → KnowsActive old active → Passes id wanted h (loads_known active w h) (need_known active w h need) → need ≡ w.need + load_need wanted h size → new ≡ needing w need → l ≡ header_there wanted h size crc → id.bank ≡ bank_size_of old → SameActive old store
-    → Has store (w.loads ++ header_alone wanted h.type_id size ∷ []) (length (files_of h)) 0 → HasAccepted new l store
+    → KnowsActive old active → PassesStoreTests id wanted h (loads_known active w h) (need_known active w h need) → need ≡ w.need + load_need wanted h size → new ≡ needing w need → l ≡ header_there wanted h size crc → id.bank ≡ bank_size_of old → SameActive old store
+    → StoreHas store (w.loads ++ header_alone wanted h.type_id size ∷ []) (length (files_of h)) 0 → HasAccepted new l store
 has_header active w new b wanted h size crc need l id old store i is knows passes needs made there bank same has =
     let all : length (files_of h) ≡ length (files_of h) - 0 = omega arith in
     let planned = w.loads ++ planned_load wanted h size ∷ [] in
@@ -83,7 +83,7 @@ has_header active w new b wanted h size crc need l id old store i is knows passe
       fits = omega (arith, need_at active w wanted h size need knows.fits needed, passes.fits, bank, same.size);
     } in
     rw (made, there) (record {
-      has = subst (λ (n : ℕ). Has store (w.loads ++ header_alone wanted h.type_id size ∷ []) n 0) all has;
+      has = subst (λ (n : ℕ). StoreHas store (w.loads ++ header_alone wanted h.type_id size ∷ []) n 0) all has;
       fits = omega (arith, needed, passes.fits, bank, same.size);
       keeps = λ other knows_other.
           let one = knows_same store active other (types_of w.loads ++ h.type_id ∷ []) (knows_on old store active same knows) knows_other in

@@ -7,22 +7,22 @@ use Rattle.load_base.specs.Config.{LoadView}
 use Rattle.disk_model.specs.State.{DiskState}
 use Rattle.disk_layout.specs.Contents.{HeaderIsFirst, HeadersAreFirst}
 use Rattle.disk_layout.specs.Entries.{entry_bytes, typed_loads}
-use Rattle.disk_layout.specs.EntriesLaws.{all_are_typed}
+use Rattle.disk_layout.proofs.EntriesLemmas.{all_are_typed}
 use Rattle.disk_layout.specs.Holds.{HoldsConfig, StandingView}
 use Rattle.disk_layout.specs.Manifest.{LoadEntry, ManifestFits}
 use Rattle.disk_layout.specs.declared.manifest.Layout.TheVariants as layouts
 use Rattle.bank_store.specs.declared.store.Store.{Store}
 use Rattle.bank_store.specs.Given.{Given, configured, load_of, loads_of, whole_given}
 use Rattle.bank_store.specs.Known.{KnowsActive}
-use Rattle.bank_store.specs.KnownLaws.{knows_one, same_or_untyped}
+use Rattle.bank_store.proofs.KnownLemmas.{knows_one, same_or_untyped}
 use Rattle.bank_store.specs.Store.{bank_size_of, body_of, known_of, manifest_length}
 use Rattle.session_rules.specs.Uploads.{need_of}
 use Rattle.session_rules.specs.KeptLoads.{has_other_type, kept_entries, kept_loads, types_in, types_of, with_kept, with_kept_entries}
 use Rattle.session_rules.specs.TargetLog.{standing_after}
 use Rattle.load_intake.specs.declared.down.Down.{Down}
-use Rattle.load_intake.specs.Contents.{Gives, IsGiven, LeavesSealed, with_whole_loads}
-use Rattle.load_intake.specs.ContentLaws.{adds_both}
-use Rattle.load_intake.specs.Stores.{Has, HasRoomFor, HasRoomToKeep}
+use Rattle.load_intake.specs.Contents.{GivesContents, IsGiven, LeavesSealed, with_whole_loads}
+use Rattle.load_intake.proofs.ContentLemmas.{adds_both}
+use Rattle.load_intake.specs.Stores.{StoreHas, HasRoomFor, HasRoomToKeep}
 use Rattle.load_intake.proofs.Entries.{whole_entries}
 use Rattle.load_intake.proofs.Fits.{all_fit_whole}
 use Rattle.load_intake.proofs.KeepsAll.{kept_entries_untyped}
@@ -31,7 +31,7 @@ use Rattle.load_intake.proofs.Steps.{room}
 
 -- ---- what is sealed after loads that are kept
 
-pub sealed_after : {S T : Type 0} (a b : DiskState) (mid : Store) (c : DiskState) (after : Store) (s : StandingView) (g : Given) (loads : List LoadView) (x : S) (r : Result T Down) → Gives {E = Down} a mid b s g (Ok x)
+pub sealed_after : {S T : Type 0} (a b : DiskState) (mid : Store) (c : DiskState) (after : Store) (s : StandingView) (g : Given) (loads : List LoadView) (x : S) (r : Result T Down) → GivesContents {E = Down} a mid b s g (Ok x)
     → (IsGiven mid b s g → LeavesSealed b after c s loads r) → LeavesSealed a after c s loads r
 sealed_after a b mid c after s g loads x (Ok y) one other =
     let next = other one.ok in
@@ -41,7 +41,7 @@ sealed_after a b mid c after s g loads x (Err e) one other =
     record { adds = adds_both a b c (λ left. HoldsConfig left s) one.adds next.adds; rises = tt; ok = tt }
 
 -- there is room for the manifest
-pub may_seal_all : (before mid : Store) (all : List LoadEntry) → bank_size_of mid ≡ bank_size_of before → need_of all ≤ bank_size_of before → Has mid all 0 0 → HasRoomFor (manifest_length mid) mid
+pub may_seal_all : (before mid : Store) (all : List LoadEntry) → bank_size_of mid ≡ bank_size_of before → need_of all ≤ bank_size_of before → StoreHas mid all 0 0 → HasRoomFor (manifest_length mid) mid
 may_seal_all before mid all size fits has = room mid all 0 0 (manifest_length mid) has (omega (arith, has.manifest, need_is all, fits, size))
 
 -- ---- the configuration that is made
@@ -79,7 +79,7 @@ kept_same store types one other a b = by_case (same_or_untyped one other a.fits 
     by_case (inr untyped) = kept_entries_untyped types one untyped.0 ∙ sym (kept_entries_untyped types other untyped.1)
 
 pub knows_new : (before mid after : Store) (new active other : List LoadEntry) → KnowsActive before active → KnowsActive before other → HasRoomToKeep before (length new) new (kept_entries (types_of new) active)
-    → Has mid (new ++ kept_entries (types_of new) active) 0 0 → known_of after ≡ body_of mid → bank_size_of after ≡ bank_size_of before → KnowsActive after (with_kept_entries new other)
+    → StoreHas mid (new ++ kept_entries (types_of new) active) 0 0 → known_of after ≡ body_of mid → bank_size_of after ≡ bank_size_of before → KnowsActive after (with_kept_entries new other)
 knows_new before mid after new active other knows too free has known size =
     let all = new ++ kept_entries (types_of new) active in
     let fits : ManifestFits layouts.Two all = record { count = omega (arith, free.few, length-append new (kept_entries (types_of new) active)); each = all_fit_whole all has.fit } in

@@ -7,19 +7,19 @@ use Rattle.disk_model.specs.Image.{range}
 use Rattle.disk_model.specs.State.{DiskState}
 use Rattle.disk_layout.specs.Entries.{entry_bytes}
 use Rattle.disk_layout.specs.Holds.{HoldsConfig, StandingView}
-use Rattle.disk_layout.specs.EntriesLaws.{load_fits}
+use Rattle.disk_layout.proofs.EntriesLemmas.{load_fits}
 use Rattle.load_intake.proofs.Fits.{begun_fit, load_fits_begun}
 use Rattle.disk_layout.specs.Manifest.{LoadEntry, LoadFits, entries_length, head_fields, load_entry_fields, manifest_fields, total_length}
 use Rattle.disk_layout.specs.declared.manifest.Layout.TheVariants as layouts
 use Rattle.bank_store.specs.declared.store.Store.{Store}
 use Rattle.bank_store.specs.Given.{Given, GivenLoad, with_whole}
 use Rattle.bank_store.specs.Keeps.{FitsOn, KeepsLoad, LeavesActive}
-use Rattle.bank_store.specs.KnownLaws.{kept_one}
-use Rattle.bank_store.specs.Store.{IsKept, PassesBank, PassesByKept, active_at, body_of, load_kept, manifest_length, with_piece}
+use Rattle.bank_store.proofs.KnownLemmas.{kept_one}
+use Rattle.bank_store.specs.Store.{IsKeptLoad, PassesBank, PassesByKept, active_at, body_of, load_kept, manifest_length, with_piece}
 use Rattle.session_rules.specs.KeptLoads.{has_other_type, kept_entries, kept_loads}
 use Rattle.load_intake.specs.declared.down.Down.{Down}
-use Rattle.load_intake.specs.Contents.{AddsAtMost, Gives, IsGiven, with_whole_loads}
-use Rattle.load_intake.specs.Stores.{CanKeepLoad, Has, entries_begun}
+use Rattle.load_intake.specs.Contents.{AddsAtMost, GivesContents, IsGiven, with_whole_loads}
+use Rattle.load_intake.specs.Stores.{CanKeepLoad, StoreHas, entries_begun}
 use Rattle.load_intake.proofs.Entries.{entries_with_kept, whole_entries}
 use Rattle.load_intake.proofs.Filling.{beside_on, leaves_old}
 use Rattle.load_intake.proofs.Sizes.{head_size, total_more}
@@ -54,20 +54,20 @@ nothing_more g = ap (λ (loads : List GivenLoad). given loads g.bytes) (sym (app
     given loads bytes = record { loads = loads; bytes = bytes }
 
 pub gives_none : {T : Type 0} (store : Store) (disk : DiskState) (s : StandingView) (g : Given) (types : List ℕ) (one : LoadView) (t : Option ℕ) (x : T) → one.type_id ≡ t → has_other_type types t ≡ false → IsGiven store disk s g
-    → Gives {E = Down} disk store disk s (with_whole_loads (kept_loads types (one ∷ [])) g) (Ok x)
+    → GivesContents {E = Down} disk store disk s (with_whole_loads (kept_loads types (one ∷ [])) g) (Ok x)
 gives_none store disk s g types one t x same not is =
     let all : g ≡ with_whole_loads (kept_loads types (one ∷ [])) g = nothing_more g ∙ ap (given_with g) (sym (not_kept_whole types one (ap (has_other_type types) same ∙ not))) in
     record { adds = adds_none disk s; ok = subst (λ (y : Given). IsGiven store disk s y) all is }
 
-pub has_none : (store : Store) (given : List LoadEntry) (types : List ℕ) (load : LoadEntry) → has_other_type types load.type_id ≡ false → Has store given 0 0 → Has store (given ++ kept_entries types (load ∷ [])) 0 0
+pub has_none : (store : Store) (given : List LoadEntry) (types : List ℕ) (load : LoadEntry) → has_other_type types load.type_id ≡ false → StoreHas store given 0 0 → StoreHas store (given ++ kept_entries types (load ∷ [])) 0 0
 has_none store given types load not has =
-    subst (λ (l : List LoadEntry). Has store l 0 0) (sym (append-nil given) ∙ ap (λ (l : List LoadEntry). given ++ l) (sym (not_kept types load not))) has
+    subst (λ (l : List LoadEntry). StoreHas store l 0 0) (sym (append-nil given) ∙ ap (λ (l : List LoadEntry). given ++ l) (sym (not_kept types load not))) has
 
 -- ---- one that is
 
-pub keep_gives : {T : Type 0} (before after : Store) (old new : DiskState) (s : StandingView) (g : Given) (load : ℕ) (types : List ℕ) (t : Option ℕ) (front back : List LoadView) (one : LoadView) (x : T) → IsKept before load
+pub keep_gives : {T : Type 0} (before after : Store) (old new : DiskState) (s : StandingView) (g : Given) (load : ℕ) (types : List ℕ) (t : Option ℕ) (front back : List LoadView) (one : LoadView) (x : T) → IsKeptLoad before load
     → KeepsLoad before after old new load → old.clock ≤ new.clock → LeavesActive before old new → FitsOn before after old new → s.loads ≡ front ++ one ∷ back → length front + 1 ≡ load
-    → one.type_id ≡ t → has_other_type types t ≡ true → IsGiven before old s g → Gives {E = Down} old after new s (with_whole_loads (kept_loads types (one ∷ [])) g) (Ok x)
+    → one.type_id ≡ t → has_other_type types t ≡ true → IsGiven before old s g → GivesContents {E = Down} old after new s (with_whole_loads (kept_loads types (one ∷ [])) g) (Ok x)
 keep_gives before after old new s g load types t front back one x kept keeps later leaves on are at same stays is =
     let image = is.beside.image in
     let now = with_piece before is.given.progress (range image (active_at before + total_length kept.before) (entries_length kept.kept.files)) image in
@@ -93,13 +93,13 @@ manifest_whole store loads body =
     )
 
 pub keep_has : (before after : Store) (old new : DiskState) (load : ℕ) (types : List ℕ) (entry : LoadEntry) (given : List LoadEntry) → CanKeepLoad before load entry → KeepsLoad before after old new load
-    → has_other_type types entry.type_id ≡ true → Has before given 0 0 → Has after (given ++ kept_entries types (entry ∷ [])) 0 0
+    → has_other_type types entry.type_id ≡ true → StoreHas before given 0 0 → StoreHas after (given ++ kept_entries types (entry ∷ [])) 0 0
 keep_has before after old new load types entry given can keeps stays has =
     let n = entries_length can.is.kept.files in
     let size : n ≡ entries_length entry.files = ap (λ (l : LoadEntry). entries_length l.files) can.same in
     let body : body_of after ≡ entries_begun 0 (given ++ entry ∷ []) =
     entries_with_kept (body_of after) (body_of before) given (entry ∷ []) has.body (keeps.manifest can.is ∙ ap (λ (l : LoadEntry). body_of before ++ entry_bytes (l ∷ [])) can.same) in
-    let more : Has after (given ++ entry ∷ []) 0 0 = record {
+    let more : StoreHas after (given ++ entry ∷ []) 0 0 = record {
       progress = load_kept n has.progress;
       filling = keeps.filling can.is has.progress has.filling;
       loads = omega (arith, has.loads, length-append given (entry ∷ []));
@@ -110,7 +110,7 @@ keep_has before after old new load types entry given can keeps stays has =
       body = body;
       fit = begun_fit 0 given entry has.fit (load_fits_begun entry (subst (λ (l : LoadEntry). LoadFits layouts.Two l) can.same (load_fits layouts.Two can.is.before can.is.behind can.is.kept can.is.says.fits)));
     } in
-    subst (λ (l : List LoadEntry). Has after (given ++ l) 0 0) (sym (is_kept types entry stays)) more
+    subst (λ (l : List LoadEntry). StoreHas after (given ++ l) 0 0) (sym (is_kept types entry stays)) more
 
 -- there is room for it
 pub keeps_within : (store : Store) (load : ℕ) (entry : LoadEntry) → CanKeepLoad store load entry → (need have : ℕ) → PassesByKept store load need have → ⊥
@@ -119,5 +119,5 @@ keeps_within store load entry can need have passes =
     within store (entries_length entry.files) can.room need have (subst (λ (n : ℕ). PassesBank store n need have) same passes.1)
 
 -- where nothing is done
-pub gives_same : {T : Type 0} (store : Store) (disk : DiskState) (s : StandingView) (g : Given) (x : T) → IsGiven store disk s g → Gives {E = Down} disk store disk s g (Ok x)
+pub gives_same : {T : Type 0} (store : Store) (disk : DiskState) (s : StandingView) (g : Given) (x : T) → IsGiven store disk s g → GivesContents {E = Down} disk store disk s g (Ok x)
 gives_same store disk s g x is = record { adds = adds_none disk s; ok = is }

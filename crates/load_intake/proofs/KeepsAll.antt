@@ -8,19 +8,19 @@ use Rattle.load_base.specs.Config.{LoadView}
 use Rattle.disk_model.specs.State.{DiskState}
 use Rattle.disk_layout.specs.Contents.{entries_of, entry_of}
 use Rattle.disk_layout.specs.Entries.{typed_loads}
-use Rattle.disk_layout.specs.EntriesLaws.{total_length_join, total_length_first}
+use Rattle.disk_layout.proofs.EntriesLemmas.{total_length_join, total_length_first}
 use Rattle.disk_layout.specs.Holds.{StandingView}
 use Rattle.disk_layout.specs.Manifest.{LoadEntry, entries_length, entry_view, total_length}
 use Rattle.disk_layout.specs.declared.manifest.ManifestLoad.{ManifestLoad}
 use Rattle.bank_store.specs.declared.store.Store.{Store}
 use Rattle.bank_store.specs.Given.{Given, GivenLoad, whole_given}
 use Rattle.bank_store.specs.Known.{KnowsActive}
-use Rattle.bank_store.specs.KnownLaws.{can_keep, knows_one, knows_standing, same_or_untyped}
+use Rattle.bank_store.proofs.KnownLemmas.{can_keep, knows_one, knows_standing, same_or_untyped}
 use Rattle.session_rules.specs.KeptLoads.{has_other_type, kept_entries, kept_loads, types_of}
 use Rattle.load_intake.specs.declared.down.Down.{Down}
-use Rattle.load_intake.specs.Contents.{Gives, IsGiven, with_whole_loads}
+use Rattle.load_intake.specs.Contents.{GivesContents, IsGiven, with_whole_loads}
 use Rattle.load_intake.specs.Keeping.{entries, kept_beside}
-use Rattle.load_intake.specs.Stores.{CanKeepLoad, Has, HasRoomToKeep}
+use Rattle.load_intake.specs.Stores.{CanKeepLoad, StoreHas, HasRoomToKeep}
 use Rattle.load_intake.proofs.Filling.{gives_then}
 use Rattle.load_intake.proofs.Sizes.{total_within}
 use Rattle.load_intake.proofs.Steps.{awaits_load, room}
@@ -46,18 +46,18 @@ kept_first types load loads is = ap (λ (b : Bool). cond b (load ∷ kept_entrie
 
 -- ---- what the store has
 
-pub none_has : (store : Store) (given : List LoadEntry) (active : List ManifestLoad) (new : List LoadEntry) → Has store given 0 0 → Has store (given ++ kept_beside (entries (take 0 active)) new) 0 0
-none_has store given active new has = subst (λ (l : List LoadEntry). Has store l 0 0) (sym (append-nil given)) has
+pub none_has : (store : Store) (given : List LoadEntry) (active : List ManifestLoad) (new : List LoadEntry) → StoreHas store given 0 0 → StoreHas store (given ++ kept_beside (entries (take 0 active)) new) 0 0
+none_has store given active new has = subst (λ (l : List LoadEntry). StoreHas store l 0 0) (sym (append-nil given)) has
 
 pub more_has : (store : Store) (new : List LoadEntry) (active : List ManifestLoad) (i : ℕ) (load : ManifestLoad) → i < length active → load ≡ get_or active i load
-    → Has store ((new ++ kept_beside (entries (take i active)) new) ++ kept_entries (types_of new) (entry_view load ∷ [])) 0 0
-    → Has store (new ++ kept_beside (entries (take (i + 1) active)) new) 0 0
+    → StoreHas store ((new ++ kept_beside (entries (take i active)) new) ++ kept_entries (types_of new) (entry_view load ∷ [])) 0 0
+    → StoreHas store (new ++ kept_beside (entries (take (i + 1) active)) new) 0 0
 more_has store new active i load within is has =
     let before = kept_entries (types_of new) (entries (take i active)) in
     let one = kept_entries (types_of new) (entry_view load ∷ []) in
     let same : (new ++ before) ++ one ≡ new ++ kept_entries (types_of new) (entries (take (i + 1) active)) =
     append_assoc new before one ∙ ap (λ (l : List LoadEntry). new ++ l) (sym (ap (kept_entries (types_of new)) (active_more active i load within is) ∙ kept_parts (types_of new) (entries (take i active)) (entry_view load ∷ []))) in
-    subst (λ (l : List LoadEntry). Has store l 0 0) same has
+    subst (λ (l : List LoadEntry). StoreHas store l 0 0) same has
 
 typed_so : (types : List ℕ) (t : Option ℕ) → has_other_type types t ≡ true → t ≢ None
 typed_so types None is e = let wrong : false ≡ true = is in cc
@@ -65,7 +65,7 @@ typed_so types (Some id) is e = cc
 
 -- there is room for the next one
 pub can_keep_load : (store : Store) (new : List LoadEntry) (active : List ManifestLoad) (i : ℕ) (load : ManifestLoad) (number : ℕ) → i < length active → load ≡ get_or active i load → number ≡ i + 1
-    → KnowsActive store (entries active) → HasRoomToKeep store (length new) new (kept_beside (entries active) new) → Has store (new ++ kept_beside (entries (take i active)) new) 0 0
+    → KnowsActive store (entries active) → HasRoomToKeep store (length new) new (kept_beside (entries active) new) → StoreHas store (new ++ kept_beside (entries (take i active)) new) 0 0
     → has_other_type (types_of new) load.type_id ≡ true → CanKeepLoad store number (entry_view load)
 can_keep_load store new active i load number within is at knows free has stays =
     let types = types_of new in
@@ -154,16 +154,16 @@ So g types s n = with_whole_loads (kept_loads types (take n s.loads)) g
 pub step_gives : {S T : Type 0} (first mid after : Store) (start old new : DiskState) (s : StandingView) (g : Given) (types : List ℕ) (active : List ManifestLoad) (i number : ℕ) (load : ManifestLoad) (x : S) (r : Result T Down)
     → KnowsActive first (entries active) → i < length active → load ≡ get_or active i load → number ≡ i + 1
     → ((g : Given) → IsGiven mid old s g → (front back : List LoadView) (one : LoadView) → s.loads ≡ front ++ one ∷ back → length front + 1 ≡ number → one.type_id ≡ load.type_id
-    → Gives old after new s (with_whole_loads (kept_loads types (one ∷ [])) g) r)
-    → (has_other_type types load.type_id ≡ false → (g : Given) → IsGiven mid old s g → Gives old after new s g r)
-    → IsGiven first start s g → Gives {E = Down} start mid old s (So g types s i) (Ok x) → Gives start after new s (So g types s (i + 1)) r
+    → GivesContents old after new s (with_whole_loads (kept_loads types (one ∷ [])) g) r)
+    → (has_other_type types load.type_id ≡ false → (g : Given) → IsGiven mid old s g → GivesContents old after new s g r)
+    → IsGiven first start s g → GivesContents {E = Down} start mid old s (So g types s i) (Ok x) → GivesContents start after new s (So g types s (i + 1)) r
 step_gives first mid after start old new s g types active i number load x r knows within is at keeps none given was = by_case (aligned first start s g (entries active) knows given)
   where
-    more : (next : Given) → So g types s (i + 1) ≡ next → (IsGiven mid old s (So g types s i) → Gives old after new s next r) → Gives start after new s (So g types s (i + 1)) r
+    more : (next : Given) → So g types s (i + 1) ≡ next → (IsGiven mid old s (So g types s i) → GivesContents old after new s next r) → GivesContents start after new s (So g types s (i + 1)) r
     more next same gives =
-        gives_then start old mid new after s (So g types s i) (So g types s (i + 1)) x r was (λ here. subst (λ (y : Given). Gives old after new s y r) (sym same) (gives here))
+        gives_then start old mid new after s (So g types s i) (So g types s (i + 1)) x r was (λ here. subst (λ (y : Given). GivesContents old after new s y r) (sym same) (gives here))
 
-    by_case : Aligned s (entries active) → Gives start after new s (So g types s (i + 1)) r
+    by_case : Aligned s (entries active) → GivesContents start after new s (So g types s (i + 1)) r
     by_case (inl same) =
         let size : length s.loads ≡ length active = sym (length-map s.loads entry_of) ∙ ap (λ (l : List LoadEntry). length l) same ∙ length-map active entry_view in
         let inside : i < length s.loads = omega (arith, within, size) in

@@ -17,7 +17,7 @@ use Rattle.load_header.specs.Header.{HeaderView}
 use Rattle.load_protocol_files.specs.declared.lur.Wanted.{Wanted}
 use Rattle.session_rules.specs.declared.reason.Reason.{Reason}
 use Rattle.session_rules.specs.Uploads.{is_last}
-use Rattle.load_intake.specs.Judging.{Passes, loads_known, need_known, refused_for}
+use Rattle.load_intake.specs.Judging.{PassesStoreTests, loads_known, need_known, refused_for}
 use Rattle.load_intake.specs.Keeping.{entries, kept_with, listed_need, listed_needs, says_type}
 use Rattle.load_intake.specs.States.{WholeView, upload_of}
 
@@ -137,5 +137,5 @@ pub same_refusal : (accepts : Accepts) (id : Identity) (wanted : Wanted) (h : He
     → found ≡ refused_for accepts id wanted h told loads need → found ≡ refused_for accepts id wanted h one count all
 same_refusal accepts id wanted h told one loads count need all found t l n is = is ∙ rw (t, l, n) refl
 
-pub same_passes : (id : Identity) (wanted : Wanted) (h : HeaderView) (loads count need all : ℕ) → loads ≡ count → need ≡ all → Passes id wanted h loads need → Passes id wanted h count all
+pub same_passes : (id : Identity) (wanted : Wanted) (h : HeaderView) (loads count need all : ℕ) → loads ≡ count → need ≡ all → PassesStoreTests id wanted h loads need → PassesStoreTests id wanted h count all
 same_passes id wanted h loads count need all l n passes = record { part = passes.part; few = omega (arith, l, passes.few); fits = omega (arith, n, passes.fits) }

@@ -20,3 +20,5 @@ pub mod KeepsAll
 pub mod Fits
 pub mod Installing
 pub mod Staying
+pub mod ContentLemmas
+pub mod Crcs

@@ -9,7 +9,7 @@ use Rattle.load_base.specs.Config.{FileView, LoadView}
 use Rattle.disk_model.specs.State.{DiskState}
 use Rattle.disk_layout.specs.Contents.{HeaderIsFirst, HeadersAreFirst, entries_of}
 use Rattle.disk_layout.specs.Manifest.{LoadEntry}
-use Rattle.session_rules.specs.KeptLaws.{types_same}
+use Rattle.session_rules.proofs.KeptLemmas.{types_same}
 use Rattle.session_rules.specs.KeptLoads.{said_type, types_in, types_of}
 use Rattle.disk_layout.specs.Holds.{StandingView}
 use Rattle.load_header.specs.Header.{HeaderView}
@@ -22,8 +22,8 @@ use Rattle.session_rules.specs.TargetLog.{standing_after}
 use Rattle.session_rules.specs.TargetRows.{Arriving, Over, Reads_file, RowMove, WholeRow, Writes_stop, Passes, Requests, Refuses_request, Judges, Breaks_off, UploadEnd, load_entry_of, load_of, placed, placed_view, placed_view_if, row_judged, row_moved, said_length, view_judged, view_moved, with_file_view, with_header_view}
 use Rattle.session_rules.specs.Uploads.{Accepts_file, Accepts_header, Complete, Judgement, More_files, Next, Next_load, OpenLoad, OpenLoadView, Stops_for, Upload, UploadView, files_of, next_entry, next_name, next_wanted, next_with, open_load_view}
 use Rattle.load_intake.specs.declared.down.Down.{Down}
-use Rattle.load_intake.specs.Contents.{BringsRow, BringsTo, Gives, GoesTo, InstallsRow, IsGiven, active_next, given_load, given_of, given_open}
-use Rattle.load_intake.specs.ContentLaws.{adds_nothing, adds_old, beside_continued, both_add}
+use Rattle.load_intake.specs.Contents.{BringsRow, BringsTo, GivesContents, GoesTo, InstallsRow, IsGiven, active_next, given_load, given_of, given_open}
+use Rattle.load_intake.proofs.ContentLemmas.{adds_nothing, adds_old, beside_continued, both_add}
 
 -- ---- a file is refused
 
@@ -54,7 +54,7 @@ pub brings_stop : {T : Type 0} (before after : Store) (disk : DiskState) (s : St
 brings_stop before after disk s u arrived row f (x, is) c installs = rw is (record { adds = adds_nothing disk _ _; ok = record { beside = beside_continued before after disk s c installs.beside; holds = tt } })
 
 -- or only after a call that was answered
-pub brings_stop_after : {S T : Type 0} (old : DiskState) (mid after : Store) (new : DiskState) (s : StandingView) (g : Given) (row : WholeRow) (x : S) (f : T) → (e : UploadEnd) × (row ≡ Writes_stop e) → Gives {E = Down} old mid new s g (Ok x) → Continues mid after
+pub brings_stop_after : {S T : Type 0} (old : DiskState) (mid after : Store) (new : DiskState) (s : StandingView) (g : Given) (row : WholeRow) (x : S) (f : T) → (e : UploadEnd) × (row ≡ Writes_stop e) → GivesContents {E = Down} old mid new s g (Ok x) → Continues mid after
     → BringsRow {E = Down} old after new s row (Ok f)
 brings_stop_after old mid after new s g row x f (e, is) gives c = rw is (record { adds = adds_old old new s s gives.adds; ok = record { beside = beside_continued mid after new s c gives.ok.beside; holds = tt } })
 
@@ -204,7 +204,7 @@ goes_next next store disk s g x is given = rw is (record { adds = adds_nothing d
 pub goes_complete : {T : Type 0} (next : Next) (old : DiskState) (after : Store) (new : DiskState) (s : StandingView) (g : Given) (r : Result T Down) → next ≡ Complete → BringsTo old after new s (standing_after s (loads_of g)) Over [] r → GoesTo next old after new s g r
 goes_complete next old after new s g r is brings = rw is (record { adds = brings.adds; ok = on_ok r brings.ok (λ installs. installs.beside) })
 
-pub goes_then : {S T : Type 0} (next : Next) (old : DiskState) (mid : Store) (there : DiskState) (after : Store) (new : DiskState) (s : StandingView) (g : Given) (x : S) (r : Result T Down) → Gives {E = Down} old mid there s g (Ok x)
+pub goes_then : {S T : Type 0} (next : Next) (old : DiskState) (mid : Store) (there : DiskState) (after : Store) (new : DiskState) (s : StandingView) (g : Given) (x : S) (r : Result T Down) → GivesContents {E = Down} old mid there s g (Ok x)
     → (IsGiven mid there s g → GoesTo next there after new s g r) → GoesTo next old after new s g r
 goes_then next old mid there after new s g x r gives other =
     let goes = other gives.ok in

@@ -3,7 +3,7 @@ use Rattle.std.proofs.Common.{◌≡◌, ℕ, ◌+◌, ◌-◌, ◌<◌, ◌^◌
 use Rattle.std.proofs.Math.Seq.{take-nil}
 use Rattle.crc_fields.specs.CheckSums.{crc16_after, register_after, register_after_bits, bits_of}
 use Rattle.session_rules.specs.Buffers.{Sums, summed_more}
-use Rattle.load_intake.specs.Crcs.{crc32_after_nothing}
+use Rattle.load_intake.proofs.Crcs.{crc32_after_nothing}
 
 zero_more : (n : ℕ) → n + 0 ≡ n
 zero_more n = omega arith

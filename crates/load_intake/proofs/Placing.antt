@@ -15,7 +15,7 @@ use Rattle.session_rules.specs.Uploads.{OpenLoadView, files_of, is_last, need_of
 use Rattle.load_intake.specs.Kept.{IsAccepted, intake_at, named_file, named_files}
 use Rattle.load_intake.specs.Keeping.{kept_beside, kept_with}
 use Rattle.load_intake.specs.States.{WholeView, upload_of, with_whole}
-use Rattle.load_intake.specs.Stores.{Has, HasAccepted, HasRoomFor, HasRoomToKeep, IsInStep}
+use Rattle.load_intake.specs.Stores.{StoreHas, HasAccepted, HasRoomFor, HasRoomToKeep, IsInStep}
 use Rattle.load_intake.proofs.Sizes.{need_is}
 use Rattle.load_intake.proofs.Steps.{between, room}
 
@@ -29,10 +29,10 @@ whole_is_planned w l a all =
     let parts : List ℕ → List ManifestFile → LoadEntry = λ part files. record { part = part; type_id = Some l.header.type_id; files = first ∷ files } in
     ap (λ (files : List ManifestFile). parts l.wanted.part files) (files_planned w l a all) ∙ ap (λ (part : List ℕ). parts part (named_files l.header)) (sym a.part)
 
-none_left : (w : WholeView) (l : OpenLoadView) (store : Store) → length l.files ≡ length (files_of l.header) → HasAccepted w l store → Has store (w.loads ++ load_entry_of l ∷ []) 0 0
+none_left : (w : WholeView) (l : OpenLoadView) (store : Store) → length l.files ≡ length (files_of l.header) → HasAccepted w l store → StoreHas store (w.loads ++ load_entry_of l ∷ []) 0 0
 none_left w l store all h =
     let none : length (files_of l.header) - length l.files ≡ 0 = omega (arith, all) in
-    subst (λ (n : ℕ). Has store (w.loads ++ load_entry_of l ∷ []) n 0) none h.has
+    subst (λ (n : ℕ). StoreHas store (w.loads ++ load_entry_of l ∷ []) n 0) none h.has
 
 fits_whole : (w : WholeView) (l : OpenLoadView) (store : Store) → IsAccepted w l → length l.files ≡ length (files_of l.header) → HasAccepted w l store → need_of (w.loads ++ load_entry_of l ∷ []) ≤ bank_size_of store
 fits_whole w l store a all h = rw (whole_is_planned w l a all) h.fits
@@ -41,7 +41,7 @@ pub next_in_step : (w : WholeView) (l : OpenLoadView) (b : Buffer) (store : Stor
 next_in_step w l b store a all h =
     let same = sym (append-nil (w.loads ++ load_entry_of l ∷ [])) in
     record {
-      has = subst (λ (x : List LoadEntry). Has store x 0 0) same (none_left w l store all h);
+      has = subst (λ (x : List LoadEntry). StoreHas store x 0 0) same (none_left w l store all h);
       fits = subst (λ (x : List LoadEntry). need_of x ≤ bank_size_of store) same (fits_whole w l store a all h);
       keeps = λ active knows. record {
         few = omega (arith, a.few);

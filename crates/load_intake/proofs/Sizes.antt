@@ -5,7 +5,7 @@ use Rattle.std.proofs.lemmas.Grind.{flat_map-append}
 use Rattle.std.proofs.lemmas.List.Concat.{flat_map-cons}
 use Rattle.std.proofs.lemmas.List.Sums.{sum_by-append, sum_by-cons, sum_by_push}
 use Rattle.field_grammar.specs.Fields.{number_fields, short_fields}
-use Rattle.field_grammar.specs.SectionLaws.{size_more, size_number, size_short}
+use Rattle.field_grammar.proofs.SectionLemmas.{size_more, size_number, size_short}
 use Rattle.field_grammar.specs.Spelling.{spelled_length}
 use Rattle.load_header.specs.declared.header.FileEntry.{FileEntry}
 use Rattle.load_header.specs.Header.{HeaderView}

@@ -7,7 +7,7 @@ use Rattle.disk_layout.specs.Manifest.{FitsALayout, LoadEntry, LoadFits}
 use Rattle.disk_layout.specs.declared.manifest.Layout.{Layout}
 use Rattle.bank_store.specs.declared.store.Store.{Store}
 use Rattle.bank_store.specs.Known.{KnowsActive}
-use Rattle.bank_store.specs.KnownLaws.{knows_one}
+use Rattle.bank_store.proofs.KnownLemmas.{knows_one}
 use Rattle.bank_store.specs.Store.{SameActive}
 use Rattle.session_rules.specs.KeptLoads.{has_other_type, kept_entries}
 use Rattle.load_intake.specs.Stores.{HasRoomToKeep}

@@ -14,9 +14,9 @@ use Rattle.session_rules.specs.Buffers.{Sums, summed_more}
 use Rattle.session_rules.specs.TargetRows.{Arriving, Kept_bytes, Kept_sums, load_entry_of, said_length}
 use Rattle.session_rules.specs.Uploads.{OpenLoadView, files_of, need_of, planned_load}
 use Rattle.load_intake.specs.declared.down.Down.{Down}
-use Rattle.load_intake.specs.Kept.{IsIntake, IsOfNext, IsOpen, bytes_taken, current_load, files_missing, intake_at, named_file, named_files}
+use Rattle.load_intake.specs.Kept.{IsIntake, IsOfNext, IsOpenLoad, bytes_taken, current_load, files_missing, intake_at, named_file, named_files}
 use Rattle.load_intake.specs.States.{WholeView}
-use Rattle.load_intake.specs.Stores.{StoreGoesOn, Has, HasRoomFor, IsInStep, MayTake, StaysInStep}
+use Rattle.load_intake.specs.Stores.{StoreGoesOn, StoreHas, HasRoomFor, IsInStep, MayTake, StaysInStep}
 use Rattle.load_intake.proofs.Staying.{knows_back, room_on}
 use Rattle.load_intake.proofs.Sizes.{size_first, total_more, total_within}
 use Rattle.load_intake.proofs.Steps.{awaits_file, room}
@@ -34,7 +34,7 @@ said_planned : (h : HeaderView) (n : ℕ) → n < length (files_of h) → said_l
 said_planned h n within =
     ap said_length (slice_get-get_or (files_of h) n no_entry within) ∙ ap file_length (sym (get_or-map named_file (files_of h) n no_entry (named_file no_entry) within))
 
-pub next_fits : (l : OpenLoadView) (s : Sums) → IsOpen l s → entries_length l.files + s.said ≤ entries_length (named_files l.header)
+pub next_fits : (l : OpenLoadView) (s : Sums) → IsOpenLoad l s → entries_length l.files + s.said ≤ entries_length (named_files l.header)
 next_fits l s open_load =
     let n = length l.files in
     let within : n < length (named_files l.header) = subst (λ (k : ℕ). n < k) (sym (length-map (files_of l.header) named_file)) open_load.left in
@@ -43,7 +43,7 @@ next_fits l s open_load =
     omega (arith, more, said, ap entries_length open_load.planned)
 
 -- the loads so far with all of the next file
-pub planned_fits : (loads : List LoadEntry) (l : OpenLoadView) (s : Sums) → IsOpen l s → total_length (loads ++ load_entry_of l ∷ []) + s.said ≤ need_of (loads ++ planned_load l.wanted l.header l.size ∷ [])
+pub planned_fits : (loads : List LoadEntry) (l : OpenLoadView) (s : Sums) → IsOpenLoad l s → total_length (loads ++ load_entry_of l ∷ []) + s.said ≤ need_of (loads ++ planned_load l.wanted l.header l.size ∷ [])
 planned_fits loads l s open_load =
     let first : ManifestFile = record { name = l.wanted.header; length = l.size } in
     omega (
@@ -58,15 +58,15 @@ planned_fits loads l s open_load =
 
 -- ---- what a call that takes more asks for
 
-pub file_awaited : (w : WholeView) (l : OpenLoadView) (s : Sums) (store : Store) → IsOpen l s → IsInStep (intake_at w (Some l) (Kept_sums s)) store → AwaitsFile store
+pub file_awaited : (w : WholeView) (l : OpenLoadView) (s : Sums) (store : Store) → IsOpenLoad l s → IsInStep (intake_at w (Some l) (Kept_sums s)) store → AwaitsFile store
 file_awaited w l s store open_load step = awaits_file store _ _ _ step.has (omega (arith, open_load.left))
 
-pub room_for_more : (w : WholeView) (l : OpenLoadView) (s : Sums) (store : Store) → IsOpen l s → IsInStep (intake_at w (Some l) (Kept_sums s)) store → HasRoomFor (s.said - s.count) store
+pub room_for_more : (w : WholeView) (l : OpenLoadView) (s : Sums) (store : Store) → IsOpenLoad l s → IsInStep (intake_at w (Some l) (Kept_sums s)) store → HasRoomFor (s.said - s.count) store
 room_for_more w l s store open_load step = room store _ _ _ (s.said - s.count) step.has (omega (arith, planned_fits w.loads l s open_load, step.fits))
 
 -- ---- and what holds then
 
-still_open : (l : OpenLoadView) (s new : Sums) → new.said ≡ s.said → IsOpen l s → IsOpen l new
+still_open : (l : OpenLoadView) (s new : Sums) → new.said ≡ s.said → IsOpenLoad l s → IsOpenLoad l new
 still_open l s new said o = record { header = o.header; part = o.part; left = o.left; planned = o.planned; said = said ∙ o.said }
 
 taken_more : (count said n m : ℕ) → m ≡ min (said - count) n → min count said + m ≡ min (count + n) said
@@ -77,8 +77,8 @@ pub taken_then : (s : Sums) (bytes : List ℕ) → min s.count s.said + length (
 taken_then s bytes = taken_more s.count s.said (length bytes) (length (take (s.said - s.count) bytes)) (length-take (s.said - s.count) bytes)
 
 pub file_has : (store : Store) (loads : List LoadEntry) (missing : ℕ) (s new : Sums) (bytes : List ℕ) → new ≡ summed_more s bytes
-    → Has store loads missing (min s.count s.said + length (take (s.said - s.count) bytes)) → Has store loads missing (min new.count new.said)
-file_has store loads missing s new bytes is has = rw is (subst (λ (n : ℕ). Has store loads missing n) (taken_then s bytes) has)
+    → StoreHas store loads missing (min s.count s.said + length (take (s.said - s.count) bytes)) → StoreHas store loads missing (min new.count new.said)
+file_has store loads missing s new bytes is has = rw is (subst (λ (n : ℕ). StoreHas store loads missing n) (taken_then s bytes) has)
 
 -- an intake that has taken more
 pub keeps_more : (w : WholeView) (load next : Option OpenLoadView) (arriving more : Arriving) → next ≡ load → (IsOfNext load arriving → IsOfNext next more)
@@ -93,11 +93,11 @@ may_take w None (Kept_sums s) store i step = absurd i.next
 may_take w (Some l) (Kept_sums s) store i step = (file_awaited w l s store i.next step, room_for_more w l s store i.next step)
 
 pub step_more : (w : WholeView) (load next : Option OpenLoadView) (arriving more : Arriving) (old new : Store) → next ≡ load → SameActive old new → IsInStep (intake_at w load arriving) old
-    → Has new (w.loads ++ current_load load) (files_missing load) (bytes_taken more) → IsInStep (intake_at w next more) new
+    → StoreHas new (w.loads ++ current_load load) (files_missing load) (bytes_taken more) → IsInStep (intake_at w next more) new
 step_more w load next arriving more old new same active step has =
     rw same (record { has = has; fits = omega (arith, active.size, step.fits); keeps = λ loads knows. room_on old new _ _ _ active (step.keeps loads (knows_back old new loads active knows)) })
 
 pub stays_more : (r : Result (Unit {0}) Down) (w : WholeView) (load next : Option OpenLoadView) (arriving more : Arriving) (old new : Store) (d e : DiskState) → next ≡ load → IsInStep (intake_at w load arriving) old
-    → OnOk r (Has new (w.loads ++ current_load load) (files_missing load) (bytes_taken more)) → OnOk r (StoreGoesOn old new d e) → OnOk r (StaysInStep (intake_at w next more) old new d e)
+    → OnOk r (StoreHas new (w.loads ++ current_load load) (files_missing load) (bytes_taken more)) → OnOk r (StoreGoesOn old new d e) → OnOk r (StaysInStep (intake_at w next more) old new d e)
 stays_more (Ok x) w load next arriving more old new d e same step has goes = record { in_step = step_more w load next arriving more old new same goes.active step has; goes_on = goes }
 stays_more (Err x) w load next arriving more old new d e same step has goes = tt

@@ -101,7 +101,7 @@ pub record IsGiven (store : Store) (disk : DiskState) (s : StandingView) (g : Gi
   pub given : HasGiven store beside.image g
 
 -- With Ok this is given, and whatever is answered, nothing new may be left but what holds the configuration.
-pub record Gives {T E : Type 0} (old : DiskState) (after : Store) (new : DiskState) (s : StandingView) (g : Given) (result : Result T E) : Type 0 where
+pub record GivesContents {T E : Type 0} (old : DiskState) (after : Store) (new : DiskState) (s : StandingView) (g : Given) (result : Result T E) : Type 0 where
   pub adds : AddsAtMost old new (λ left. HoldsConfig left s)
   pub ok : OnOk result (IsGiven after new s g)
 

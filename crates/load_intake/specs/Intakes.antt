@@ -43,14 +43,14 @@ abbrev pub IsFresh : IntakeState → Type 0
 IsFresh st = st.arriving ≡ arriving_of (Reads_file st.upload) []
 
 -- Between two loads nothing has arrived of the next header, and no bytes are held.
-pub record IsBetweenLoads (st : IntakeState) : Type 0 where
+pub record IntakeIsBetweenLoads (st : IntakeState) : Type 0 where
   pub fresh : IsFresh st
   pub empty : st.held ≡ 0
 
 -- an intake that goes on has nothing of the next file yet
 abbrev pub BeginsNext : Finished → Type 0
 BeginsNext (finished.MoreFiles intake) = IsFresh intake
-BeginsNext (finished.NextLoad intake) = IsBetweenLoads intake
+BeginsNext (finished.NextLoad intake) = IntakeIsBetweenLoads intake
 BeginsNext finished = ⊤
 
 -- an intake after these bytes more of the file that arrives

@@ -26,7 +26,7 @@ refused_for accepts id wanted h kept loads need =
 
 -- what of these tests the store goes by: the part number is the one that was asked for, a manifest can count the loads, and the
 -- bank has room
-pub record Passes (id : Identity) (wanted : Wanted) (h : HeaderView) (loads need : ℕ) : Type 0 where
+pub record PassesStoreTests (id : Identity) (wanted : Wanted) (h : HeaderView) (loads need : ℕ) : Type 0 where
   pub part : h.part ≡ wanted.part
   pub few : loads ≤ 32
   pub fits : need ≤ id.bank

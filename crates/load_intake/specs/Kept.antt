@@ -54,7 +54,7 @@ bytes_taken (Kept_sums s) = min s.count s.said
 
 -- A file of the open load is still to come: the load has the first files that its header names, and of the next one so
 -- many bytes are said.
-pub record IsOpen (l : OpenLoadView) (s : Sums) : Type 0 where
+pub record IsOpenLoad (l : OpenLoadView) (s : Sums) : Type 0 where
   pub header : IsHeader l.header
   pub part : l.header.part ≡ l.wanted.part
   pub left : length l.files < length (files_of l.header)
@@ -64,7 +64,7 @@ pub record IsOpen (l : OpenLoadView) (s : Sums) : Type 0 where
 -- what is kept of the file that arrives is of the one that comes next
 abbrev pub IsOfNext : Option OpenLoadView → Arriving → Type 0
 IsOfNext None (Kept_bytes b) = ⊤
-IsOfNext (Some l) (Kept_sums s) = IsOpen l s
+IsOfNext (Some l) (Kept_sums s) = IsOpenLoad l s
 IsOfNext current arriving = ⊥
 
 -- A load is still to come of at most 32, and the bytes that all need are counted. No bytes of the contents of files are held

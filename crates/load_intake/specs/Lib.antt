@@ -1,6 +1,4 @@
 pub mod Contents
-pub mod ContentLaws
-pub mod Crcs
 pub mod Held
 pub mod Intakes
 pub mod Judging

@@ -16,7 +16,7 @@ use Rattle.bank_store.specs.declared.stage.Filling.{Filling}
 use Rattle.bank_store.specs.DiskWrites.{TimeGoesOn, IsRunning}
 use Rattle.bank_store.specs.Fits.{Fits, Works}
 use Rattle.bank_store.specs.Known.{KnowsActive}
-use Rattle.bank_store.specs.Store.{AwaitsFile, AwaitsLoad, IsFilling, IsKept, IsPrepared, SameActive, active_bank, active_sequence, active_slot, bank_size_of, body_of, manifest_length}
+use Rattle.bank_store.specs.Store.{AwaitsFile, AwaitsLoad, IsFilling, IsKeptLoad, IsPrepared, SameActive, active_bank, active_sequence, active_slot, bank_size_of, body_of, manifest_length}
 use Rattle.session_rules.specs.KeptLoads.{with_kept_entries}
 use Rattle.session_rules.specs.Uploads.{OpenLoadView, files_of, need_of, planned_load}
 use Rattle.session_rules.specs.TargetRows.{Arriving, Kept_bytes, Kept_sums, load_entry_of}
@@ -57,7 +57,7 @@ AllFitBegun left (l ∷ next ∷ loads) = FitsBegun 0 l × AllFitBegun left (nex
 
 -- The store has these loads, of the last of which this many files are still to end, and after them this many bytes of the
 -- file that ends next.
-pub record Has (store : Store) (given : List LoadEntry) (left taken : ℕ) : Type 0 where
+pub record StoreHas (store : Store) (given : List LoadEntry) (left taken : ℕ) : Type 0 where
   pub progress : Filling
   pub filling : IsFilling store progress
   pub loads : progress.loads ≡ length given
@@ -87,7 +87,7 @@ MayTake (Kept_sums s) store = AwaitsFile store × HasRoomFor (s.said - s.count) 
 
 -- The load is the active one of this number, and there is room for it after those that stand in the store.
 pub record CanKeepLoad (store : Store) (number : ℕ) (load : LoadEntry) : Type 0 where
-  pub is : IsKept store number
+  pub is : IsKeptLoad store number
   pub same : is.kept ≡ load
   pub awaits : AwaitsLoad store
   pub room : HasRoomFor (entries_length load.files) store
@@ -100,14 +100,14 @@ pub record HasRoomToKeep (store : Store) (requested : ℕ) (planned kept : List 
 
 -- The store has what the intake took, all that is planned fits its bank, and so do the loads that are kept, once they are known.
 pub record IsInStep (st : IntakeState) (store : Store) : Type 0 where
-  pub has : Has store (loads_so_far st.upload) (files_missing st.upload.current) (bytes_taken st.arriving)
+  pub has : StoreHas store (loads_so_far st.upload) (files_missing st.upload.current) (bytes_taken st.arriving)
   pub fits : need_of (loads_planned st.upload) ≤ bank_size_of store
   pub keeps : (active : List LoadEntry) → KnowsActive store active
       → HasRoomToKeep store (length st.upload.request) (loads_planned st.upload) (kept_planned active st.upload st.upload.current)
 
 -- a load stands in the store with its files so far
 pub record HasAccepted (w : WholeView) (l : OpenLoadView) (store : Store) : Type 0 where
-  pub has : Has store (w.loads ++ load_entry_of l ∷ []) (length (files_of l.header) - length l.files) 0
+  pub has : StoreHas store (w.loads ++ load_entry_of l ∷ []) (length (files_of l.header) - length l.files) 0
   pub fits : need_of (w.loads ++ planned_load l.wanted l.header l.size ∷ []) ≤ bank_size_of store
   pub keeps : (active : List LoadEntry) → KnowsActive store active
       → HasRoomToKeep store (length w.request) (w.loads ++ planned_load l.wanted l.header l.size ∷ []) (kept_at active (upload_of w None) l.header)
@@ -119,7 +119,7 @@ GoesOnInStep (finished.NextLoad intake) store = IsInStep intake store
 GoesOnInStep finished store = ⊤
 
 -- The premises of a call at the end of a file.
-pub record Arrived (st : IntakeState) (counted : ℕ) (store : Store) (disk : DiskState) : Type 0 where
+pub record FileArrived (st : IntakeState) (counted : ℕ) (store : Store) (disk : DiskState) : Type 0 where
   pub keeps : IsIntake st counted
   pub in_step : IsInStep st store
   pub running : IsRunning disk
@@ -174,7 +174,7 @@ Leaves (finished.Installed end loads) before after old new = InstallsAll end (en
 
 -- What the end of a file comes to: an intake that goes on begins with its next file, and this is left of the store and
 -- the disk.
-pub record Ends (finished : Finished) (before after : Store) (old new : DiskState) : Type 0 where
+pub record EndsFile (finished : Finished) (before after : Store) (old new : DiskState) : Type 0 where
   pub begins : BeginsNext finished
   pub leaves : Leaves finished before after old new
 

@@ -3,7 +3,7 @@ ghost use Rattle.std.specs.Prelude.{◌≡◌, ◌+◌, ◌<◌, ◌≤◌, [], 
 ghost use Rattle.std.specs.Prelude.{Some};
 ghost use Rattle.std.specs.Prelude.{IfOk, OnErr, length};
 ghost use Rattle.crc_fields.specs.CheckSums.{crc32_of};
-ghost use Rattle.accept_rules.specs.Interlocks.{Follows};
+ghost use Rattle.accept_rules.specs.Interlocks.{FollowsAccepts};
 ghost use Rattle.accept_rules.specs.Permissions.{Accepts};
 ghost use Rattle.bank_store.specs.DiskWrites.{IsRunning};
 ghost use Rattle.bank_store.specs.Given.{Given, loads_of};
@@ -30,7 +30,7 @@ ghost use Rattle.load_intake.specs.Kept.{IsAccepted, intake_at};
 ghost use Rattle.load_intake.specs.Judging.{header_row, whole_buffer, whole_header_row};
 ghost use Rattle.load_intake.specs.Places.{next_seen};
 ghost use Rattle.load_intake.specs.States.{upload_of};
-ghost use Rattle.load_intake.specs.Stores.{Arrived, Ends, GoesOnInStep, HasAccepted};
+ghost use Rattle.load_intake.specs.Stores.{FileArrived, EndsFile, GoesOnInStep, HasAccepted};
 ghost use Rattle.bank_store.specs.Known.{KnowsActive};
 ghost use Rattle.load_intake.specs.Stores.{Writes};
 
@@ -64,20 +64,20 @@ pub(crate) fn header_arrived<K: Disk, R: Rule>(
     store: &mut Store,
     disk: &mut K,
 ) -> Result<Finished, Down>
-    requires arrived { Arrived (intake_at whole None (Kept_bytes buffer)) whole.need store.old
+    requires arrived { FileArrived (intake_at whole None (Kept_bytes buffer)) whole.need store.old
         (K.state disk.old) }
     requires active { KnowsActive store.old (entries active.now) }
     requires bank { identity.now.bank ≡ bank_size_of store.old }
-    ensures row { (accepts : Accepts) → Follows R.may_say interlock.now accepts
+    ensures row { (accepts : Accepts) → FollowsAccepts R.may_say interlock.now accepts
         → (o : Outline) → IsActive o identity.now (entries active.now)
         → IfOk result (λ finished. row_seen finished ≡ view_moved
         (Reads_file (upload_of whole None)) (Kept_bytes buffer)
         (done_move accepts o (Reads_file (upload_of whole None))
         (Kept_bytes buffer))) }
-    ensures ends { IfOk result (λ finished. Ends finished store.old store.new
+    ensures ends { IfOk result (λ finished. EndsFile finished store.old store.new
         (K.state disk.old) (K.state disk.new)) }
     ensures spare { IfOk result (λ finished. HasSpareFor (length active.now) finished) }
-    ensures brings { (accepts : Accepts) → Follows R.may_say interlock.now accepts
+    ensures brings { (accepts : Accepts) → FollowsAccepts R.may_say interlock.now accepts
         → (o : Outline) → IsActive o identity.now (entries active.now)
         → (s : StandingView) (u : Upload) (arrived : Items ℕ)
         → IsOf (intake_at whole None (Kept_bytes buffer)) u arrived
@@ -89,6 +89,7 @@ pub(crate) fn header_arrived<K: Disk, R: Rule>(
     ensures known { OnErr result (known_of store.new ≡ known_of store.old) }
     ensures writes { Writes (K.state disk.old) (K.state disk.new) result }
 {
+    // For the proof: does nothing.
     header_laws();
     let bytes = buffer.prefix();
     // The bytes past the first 65,536 weren't kept.
@@ -134,20 +135,20 @@ fn header_read<K: Disk, R: Rule>(
     store: &mut Store,
     disk: &mut K,
 ) -> Result<Finished, Down>
-    requires arrived { Arrived (intake_at whole None (Kept_bytes (whole_buffer buffer.prefix)))
+    requires arrived { FileArrived (intake_at whole None (Kept_bytes (whole_buffer buffer.prefix)))
         whole.need store.old (K.state disk.old) }
     requires active { KnowsActive store.old (entries active.now) }
     requires bank { identity.now.bank ≡ bank_size_of store.old }
     requires spelled { HeaderSpells (header_view header) buffer.prefix }
     requires short { (4 ≤ length buffer.prefix) × (length buffer.prefix ≤ 65536) }
-    ensures row { (accepts : Accepts) → Follows R.may_say interlock.now accepts
+    ensures row { (accepts : Accepts) → FollowsAccepts R.may_say interlock.now accepts
         → (o : Outline) → IsActive o identity.now (entries active.now)
         → IfOk result (λ finished. row_seen finished ≡ header_row accepts o whole
         (header_view header) buffer.prefix) }
-    ensures ends { IfOk result (λ finished. Ends finished store.old store.new
+    ensures ends { IfOk result (λ finished. EndsFile finished store.old store.new
         (K.state disk.old) (K.state disk.new)) }
     ensures spare { IfOk result (λ finished. HasSpareFor (length active.now) finished) }
-    ensures brings { (accepts : Accepts) → Follows R.may_say interlock.now accepts
+    ensures brings { (accepts : Accepts) → FollowsAccepts R.may_say interlock.now accepts
         → (o : Outline) → IsActive o identity.now (entries active.now)
         → (s : StandingView) (u : Upload) → upload_of whole None ≡ upload_view u
         → InstallsRow store.old (K.state disk.old) s (Reads_file u) buffer.prefix
@@ -186,8 +187,8 @@ fn header_read<K: Disk, R: Rule>(
     go_on(whole, load, sum, buffer, next, active, store, disk)
 }
 
-/// The check sum of a load of which this header was taken: all but its last 4 bytes, where the check
-/// sum itself stands.
+/// The check sum of a load of which this header was taken: all but its last 4 bytes, where the
+/// check sum itself stands.
 fn header_sum(bytes: &[u8]) -> Crc32
     requires { 4 ≤ length bytes.now }
     ensures { result ≡ crc32_of (covered_header bytes.now) }
@@ -207,13 +208,14 @@ pub(crate) fn file_arrived<K: Disk>(
     store: &mut Store,
     disk: &mut K,
 ) -> Result<Finished, Down>
-    requires arrived { Arrived (intake_at whole (Some load) (Kept_sums sums)) whole.need store.old
+    requires arrived { FileArrived (intake_at whole (Some load)
+        (Kept_sums sums)) whole.need store.old
         (K.state disk.old) }
     requires active { KnowsActive store.old (entries active.now) }
     ensures row { (accepts : Accepts) (o : Outline) → IfOk result (λ finished.
         row_seen finished ≡ view_moved (Reads_file (upload_of whole (Some load))) (Kept_sums sums)
         (done_move accepts o (Reads_file (upload_of whole (Some load))) (Kept_sums sums))) }
-    ensures ends { IfOk result (λ finished. Ends finished store.old store.new
+    ensures ends { IfOk result (λ finished. EndsFile finished store.old store.new
         (K.state disk.old) (K.state disk.new)) }
     ensures spare { IfOk result (λ finished. HasSpareFor (length active.now) finished) }
     ensures brings { (accepts : Accepts) (o : Outline) (s : StandingView)
@@ -268,7 +270,7 @@ fn go_on<K: Disk>(
     requires running { IsRunning (K.state disk.old) }
     ensures row { IfOk result (λ finished. row_seen finished
         ≡ placed_view (upload_of whole None) load (next_seen next)) }
-    ensures ends { IfOk result (λ finished. Ends finished store.old store.new
+    ensures ends { IfOk result (λ finished. EndsFile finished store.old store.new
         (K.state disk.old) (K.state disk.new)) }
     ensures spare { IfOk result (λ finished. HasSpareFor (length active.now) finished) }
     ensures goes_to { (s : StandingView) (g : Given) → IsGiven store.old (K.state disk.old) s g
@@ -337,7 +339,7 @@ fn complete<K: Disk>(
     requires running { IsRunning (K.state disk.old) }
     ensures row { IfOk result (λ finished. row_seen finished
         ≡ placed_view (upload_of whole None) load Complete) }
-    ensures ends { IfOk result (λ finished. Ends finished store.old store.new
+    ensures ends { IfOk result (λ finished. EndsFile finished store.old store.new
         (K.state disk.old) (K.state disk.new)) }
     ensures spare { IfOk result (λ finished. HasSpareFor (length active.now) finished) }
     ensures brings { (s : StandingView) (g : Given) → IsGiven store.old (K.state disk.old) s g

@@ -43,8 +43,8 @@ impl NewLoads {
         Ok(NewLoads { loads })
     }
 
-    /// The new configuration: these loads, and then those of the one before that are kept, which are
-    /// moved. It takes no memory.
+    /// The new configuration: these loads, and then those of the one before that are kept, which
+    /// are moved. It takes no memory.
     pub fn with_kept(mut self, before: &mut List<ManifestLoad>) -> List<ManifestLoad>
         requires room { length before.old.items ≤ self.loads.spare }
         ensures { entries result.items

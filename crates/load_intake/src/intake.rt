@@ -4,7 +4,7 @@ ghost use Rattle.std.specs.Prelude.{length, IfOk, OnErr, OnOk};
 ghost use Rattle.accept_rules.specs.Permissions.{Accepts};
 ghost use Rattle.bank_store.specs.DiskWrites.{IsRunning};
 ghost use Rattle.bank_store.specs.Store.{IsPrepared, IsSpent, bank_size_of, known_of};
-ghost use Rattle.accept_rules.specs.Interlocks.{Follows};
+ghost use Rattle.accept_rules.specs.Interlocks.{FollowsAccepts};
 ghost use Rattle.disk_layout.specs.Holds.{Outline, StandingView};
 ghost use Rattle.session_rules.specs.Uploads.{Upload, next_name};
 ghost use Rattle.bank_store.specs.Fits.{InstallsBeside};
@@ -19,7 +19,7 @@ ghost use Rattle.load_intake.specs.Intakes.{HasSpareFor, IsFresh, end_view, row_
 ghost use Rattle.load_intake.specs.Keeping.{IsActive, entries};
 ghost use Rattle.load_intake.specs.Kept.{IsIntake, WaitsEmpty, intake_at};
 ghost use Rattle.load_intake.specs.Places.{arriving_at, open_load};
-ghost use Rattle.load_intake.specs.Stores.{Ends, IsInStep, StaysInStep, Writes};
+ghost use Rattle.load_intake.specs.Stores.{EndsFile, IsInStep, StaysInStep, Writes};
 ghost use Rattle.bank_store.specs.Known.{KnowsActive};
 
 use crate::down::Down;
@@ -166,9 +166,10 @@ impl Intake {
     }
 
     /// The file is whole: it is tested, and kept if no test fails. Of a header A2, A3, A4, A5, of
-    /// the last header A14, and A9 are tested, of another file A6 and A7, and after the last file of
-    /// a load A8, in this order. With the last of all the loads are installed, and after them those
-    /// of the active configuration, `active`, that have a type id which none of the new ones has.
+    /// the last header A14, and A9 are tested, of another file A6 and A7, and after the last file
+    /// of a load A8, in this order. With the last of all the loads are installed, and after them
+    /// those of the active configuration, `active`, that have a type id which none of the new ones
+    /// has.
     pub fn finish<K: Disk, R: Rule>(
         self,
         interlock: &Interlock<R>,
@@ -182,17 +183,17 @@ impl Intake {
         requires bank { identity.now.bank ≡ bank_size_of store.old }
         requires running { IsRunning (K.state disk.old) }
         // With Ok.
-        ensures row { (accepts : Accepts) → Follows R.may_say interlock.now accepts
+        ensures row { (accepts : Accepts) → FollowsAccepts R.may_say interlock.now accepts
             → (o : Outline) → IsActive o identity.now (entries active.now)
             → IfOk result (λ finished. row_seen finished ≡ view_moved (Reads_file self.upload)
             self.arriving (done_move accepts o (Reads_file self.upload) self.arriving)) }
-        ensures ends { IfOk result (λ finished. Ends finished store.old store.new
+        ensures ends { IfOk result (λ finished. EndsFile finished store.old store.new
             (K.state disk.old) (K.state disk.new)) }
         // The list of what is installed has room for the loads that are kept with it.
         ensures spare { IfOk result (λ finished. HasSpareFor (length active.now) finished) }
         // Where the disk has what arrived, it has with Ok what comes of it: the files so far, or
         // the new configuration alone. Until then the old one is left, or in the last call either.
-        ensures brings { (accepts : Accepts) → Follows R.may_say interlock.now accepts
+        ensures brings { (accepts : Accepts) → FollowsAccepts R.may_say interlock.now accepts
             → (o : Outline) → IsActive o identity.now (entries active.now)
             → (s : StandingView) (u : Upload) (arrived : Items ℕ) → IsOf self u arrived
             → InstallsRow store.old (K.state disk.old) s (Reads_file u) arrived
@@ -230,8 +231,8 @@ impl Intake {
         whole.stop(store, arrived, Reason::FileNotServed { code })
     }
 
-    /// All its lists hold at most 65,536 bytes of the contents of files together: those of the header
-    /// that arrives, or the user data of the one that was read.
+    /// All its lists hold at most 65,536 bytes of the contents of files together: those of the
+    /// header that arrives, or the user data of the one that was read.
     // For the proof: does nothing.
     pub fn keeps_little(&self)
         ensures held { self.now.held ≤ buffer_size }

@@ -1,15 +1,17 @@
 //! What the tests say of a file that arrived.
-ghost use Rattle.std.specs.Prelude.{◌≡◌, ◌+◌, ◌*◌, ◌^◌, ◌≤◌, ◌<◌, length, None, Some, bytes_eq, slice_get};
+ghost use Rattle.std.specs.Prelude.{◌≡◌, ◌+◌, ◌*◌, ◌^◌, ◌≤◌, ◌<◌, length, None, Some, bytes_eq};
+ghost use Rattle.std.specs.Prelude.{slice_get};
 ghost use Rattle.std.specs.List.{list_any};
-ghost use Rattle.accept_rules.specs.Interlocks.{Follows};
+ghost use Rattle.accept_rules.specs.Interlocks.{FollowsAccepts};
 ghost use Rattle.load_header.specs.Header.{hardware_at_view, header_view};
 ghost use Rattle.load_header.specs.HeaderFields.{IsHeader};
 ghost use Rattle.accept_rules.specs.Permissions.{Accepts};
 ghost use Rattle.session_rules.specs.Uploads.{file_reason as file_fault, files_of};
 ghost use Rattle.session_rules.specs.Uploads.{is_at as is_at_of, is_for as is_for_of};
 ghost use Rattle.session_rules.specs.Uploads.{load_reason as load_fault};
-ghost use Rattle.load_intake.specs.Judging.{Passes, refused_for};
-ghost use Rattle.load_intake.specs.Needs.{entries_need as need_of_entries, load_need as need_of_load};
+ghost use Rattle.load_intake.specs.Judging.{PassesStoreTests, refused_for};
+ghost use Rattle.load_intake.specs.Needs.{entries_need as need_of_entries};
+ghost use Rattle.load_intake.specs.Needs.{load_need as need_of_load};
 ghost use Rattle.load_intake.specs.Places.{next_seen};
 
 use crate::keeping::MOST_LOADS;
@@ -22,9 +24,9 @@ use load_header::{FileEntry, HardwareAt, LoadHeader};
 use load_protocol_files::Wanted;
 use session_rules::Reason;
 
-/// Why a header that was read is refused, if it is, beside the loads that are kept after it. `loads`
-/// is how many loads are known of, and `need` how many bytes of a bank they need; the kept ones are
-/// among them at the last header.
+/// Why a header that was read is refused, if it is, beside the loads that are kept after it.
+/// `loads` is how many loads are known of, and `need` how many bytes of a bank they need; the kept
+/// ones are among them at the last header.
 pub(crate) fn header_reason<R: Rule>(
     interlock: &Interlock<R>,
     identity: &Identity,
@@ -34,10 +36,10 @@ pub(crate) fn header_reason<R: Rule>(
     loads: u16,
     need: u64,
 ) -> Option<Reason>
-    ensures is { (accepts : Accepts) → Follows R.may_say interlock.now accepts → result
+    ensures is { (accepts : Accepts) → FollowsAccepts R.may_say interlock.now accepts → result
         ≡ refused_for accepts identity.now wanted.now (header_view header.now) kept.now loads need }
     ensures passed { result ≡ None
-        → Passes identity.now wanted.now (header_view header.now) loads need }
+        → PassesStoreTests identity.now wanted.now (header_view header.now) loads need }
 {
     if header.part.as_slice() != wanted.part.as_slice() {
         return Some(Reason::PartDiffers);

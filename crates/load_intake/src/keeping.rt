@@ -1,5 +1,6 @@
 //! Which loads of the active configuration an upload keeps.
-ghost use Rattle.std.specs.Prelude.{◌≡◌, ◌+◌, ◌*◌, ◌^◌, ◌<◌, ◌≤◌, [], ◌∷◌, ◌++◌, length, take, ◌==◌};
+ghost use Rattle.std.specs.Prelude.{◌≡◌, ◌+◌, ◌*◌, ◌^◌, ◌<◌, ◌≤◌, [], ◌∷◌, ◌++◌, length, take};
+ghost use Rattle.std.specs.Prelude.{◌==◌};
 ghost use Rattle.std.specs.List.{list_any};
 ghost use Rattle.std.specs.Option.{option_to_list};
 ghost use Rattle.disk_layout.specs.Manifest.{FitsALayout, entry_view};
@@ -201,6 +202,7 @@ pub(crate) fn move_kept(from: &mut List<ManifestLoad>, new: usize, to: &mut List
     move_kept(from, new, to);
     if is_kept_beside(&load, &to.as_slice()[..new]) {
         let Ok(()) = to.push(load) else {
+            // `to` had room for all that `from` holds.
             unreachable!()
         };
     } else {

@@ -10,10 +10,10 @@ ghost use Rattle.disk_layout.specs.Holds.{StandingView};
 ghost use Rattle.session_rules.specs.Buffers.{summed_more};
 ghost use Rattle.session_rules.specs.TargetRows.{Reads_file, arriving_load, with_bytes};
 ghost use Rattle.session_rules.specs.Uploads.{Upload, current_view};
-ghost use Rattle.load_intake.specs.Contents.{BringsTo, Gives, InstallsRow, IsGiven};
+ghost use Rattle.load_intake.specs.Contents.{BringsTo, GivesContents, InstallsRow, IsGiven};
 ghost use Rattle.load_intake.specs.Kept.{IsOfNext, WaitsEmpty, bytes_taken};
 ghost use Rattle.load_intake.specs.Places.{arriving_at, open_load};
-ghost use Rattle.load_intake.specs.Stores.{StoreGoesOn, Has, HasRoomFor, MayTake, Writes};
+ghost use Rattle.load_intake.specs.Stores.{StoreGoesOn, StoreHas, HasRoomFor, MayTake, Writes};
 
 use crate::down::Down;
 use crate::open_load::OpenLoad;
@@ -56,8 +56,8 @@ impl Place {
             → BringsTo (K.state disk.old) store.new (K.state disk.new) s s (Reads_file u)
             (arrived ++ bytes.now) result }
         ensures has { (loads : Items LoadEntry) (missing : ℕ)
-            → Has store.old loads missing (bytes_taken (arriving_at self.old))
-            → OnOk result (Has store.new loads missing (bytes_taken (arriving_at self.new))) }
+            → StoreHas store.old loads missing (bytes_taken (arriving_at self.old))
+            → OnOk result (StoreHas store.new loads missing (bytes_taken (arriving_at self.new))) }
         ensures goes_on { OnOk result (StoreGoesOn store.old store.new (K.state disk.old)
             (K.state disk.new)) }
         ensures size { bank_size_of store.new ≡ bank_size_of store.old }
@@ -87,10 +87,11 @@ fn write<K: Disk>(
     ensures sums { OnOk result (sums.new ≡ summed_more sums.old bytes.now) }
     ensures said { sums.new.said ≡ sums.old.said }
     ensures gives { (s : StandingView) (g : Given) → IsGiven store.old (K.state disk.old) s g
-        → Gives (K.state disk.old) store.new (K.state disk.new) s
+        → GivesContents (K.state disk.old) store.new (K.state disk.new) s
         (with_more (take (sums.old.said - sums.old.count) bytes.now) g) result }
-    ensures has { (loads : Items LoadEntry) (missing taken : ℕ) → Has store.old loads missing taken
-        → OnOk result (Has store.new loads missing
+    ensures has { (loads : Items LoadEntry) (missing taken : ℕ)
+        → StoreHas store.old loads missing taken
+        → OnOk result (StoreHas store.new loads missing
         (taken + length (take (sums.old.said - sums.old.count) bytes.now))) }
     ensures goes_on { OnOk result (StoreGoesOn store.old store.new (K.state disk.old)
         (K.state disk.new)) }

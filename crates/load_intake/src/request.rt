@@ -1,5 +1,5 @@
 //! What an upload asks for.
-ghost use Rattle.std.specs.Prelude.{◌≡◌, ◌<◌, ◌≤◌, ◌^◌, length, IfOk, Ok};
+ghost use Rattle.std.specs.Prelude.{◌≡◌, ◌<◌, ◌^◌, length, IfOk, Ok};
 ghost use Rattle.load_protocol_files.specs.Lur.{lur_view};
 ghost use Rattle.session_rules.specs.Uploads.{judge_request, request_read};
 ghost use Rattle.load_intake.specs.Intakes.{AsksForSome, request_seen};

@@ -20,10 +20,10 @@ ghost use Rattle.session_rules.specs.KeptLoads.{has_other_type, kept_entries, ke
 ghost use Rattle.session_rules.specs.KeptLoads.{types_in, types_of};
 ghost use Rattle.session_rules.specs.TargetLog.{standing_after};
 ghost use Rattle.session_rules.specs.TargetRows.{Over};
-ghost use Rattle.load_intake.specs.Contents.{BringsTo, Gives, IsGiven, LeavesSealed};
+ghost use Rattle.load_intake.specs.Contents.{BringsTo, GivesContents, IsGiven, LeavesSealed};
 ghost use Rattle.load_intake.specs.Contents.{with_whole_loads};
 ghost use Rattle.load_intake.specs.Keeping.{entries, kept_beside};
-ghost use Rattle.load_intake.specs.Stores.{CanKeepLoad, Has, HasRoomFor, HasRoomToKeep};
+ghost use Rattle.load_intake.specs.Stores.{CanKeepLoad, StoreHas, HasRoomFor, HasRoomToKeep};
 ghost use Rattle.load_intake.specs.Stores.{InstallsLoads, StoreGoesOn, Writes, down_of};
 ghost use Rattle.load_intake.specs.Stores.{header_alone, with_entry};
 
@@ -44,6 +44,7 @@ fn down(fault: StoreFault) -> Down
     match fault {
         StoreFault::DiskFailed => Down::DiskFailed,
         StoreFault::Memory => Down::Memory,
+        // No other call of a store than these has such a fault.
         StoreFault::BankFull { .. } | StoreFault::SequenceSpent => unreachable!(),
     }
 }
@@ -53,9 +54,9 @@ pub(crate) fn begin<K: Disk>(store: &mut Store, disk: &mut K) -> Result<(), Down
     requires prepared { IsPrepared store.old }
     requires sequence { ¬ IsSpent store.old }
     requires running { IsRunning (K.state disk.old) }
-    ensures has { OnOk result (Has store.new [] 0 0) }
+    ensures has { OnOk result (StoreHas store.new [] 0 0) }
     ensures gives { (s : StandingView) → InstallsBeside store.old (K.state disk.old) s
-        → Gives (K.state disk.old) store.new (K.state disk.new) s nothing_given result }
+        → GivesContents (K.state disk.old) store.new (K.state disk.new) s nothing_given result }
     ensures goes_on { OnOk result (StoreGoesOn store.old store.new (K.state disk.old)
         (K.state disk.new)) }
     ensures size { bank_size_of store.new ≡ bank_size_of store.old }
@@ -73,10 +74,11 @@ pub(crate) fn append<K: Disk>(store: &mut Store, disk: &mut K, bytes: &[u8]) -> 
     requires awaits { AwaitsFile store.old }
     requires room { HasRoomFor (length bytes.now) store.old }
     requires running { IsRunning (K.state disk.old) }
-    ensures has { (loads : List LoadEntry) (missing taken : ℕ) → Has store.old loads missing taken
-        → OnOk result (Has store.new loads missing (taken + length bytes.now)) }
+    ensures has { (loads : List LoadEntry) (missing taken : ℕ)
+        → StoreHas store.old loads missing taken
+        → OnOk result (StoreHas store.new loads missing (taken + length bytes.now)) }
     ensures gives { (s : StandingView) (g : Given) → IsGiven store.old (K.state disk.old) s g
-        → Gives (K.state disk.old) store.new (K.state disk.new) s (with_bytes bytes.now g)
+        → GivesContents (K.state disk.old) store.new (K.state disk.new) s (with_bytes bytes.now g)
         result }
     ensures goes_on { OnOk result (StoreGoesOn store.old store.new (K.state disk.old)
         (K.state disk.new)) }
@@ -95,8 +97,8 @@ fn start_load(store: &mut Store, part: PartText, type_id: u16, files: u16)
     requires awaits { AwaitsLoad store.old }
     requires files { (1 ≤ files) × (files ≤ 256) }
     requires size { length part ≡ 15 }
-    ensures has { (loads : List LoadEntry) → Has store.old loads 0 0
-        → Has store.new
+    ensures has { (loads : List LoadEntry) → StoreHas store.old loads 0 0
+        → StoreHas store.new
         (loads ++ record { part = part; type_id = Some type_id; files = [] } ∷ []) files 0 }
     ensures given { (image : Image) (g : Given) → HasGiven store.old image g
         → HasGiven store.new image (with_load part type_id files g) }
@@ -104,6 +106,7 @@ fn start_load(store: &mut Store, part: PartText, type_id: u16, files: u16)
 {
     match store.start_load(part, type_id, files) {
         Ok(()) => {}
+        // The premise says that the load fits.
         Err(_) => unreachable!(),
     }
 }
@@ -112,14 +115,15 @@ fn start_load(store: &mut Store, part: PartText, type_id: u16, files: u16)
 pub(crate) fn end_file(store: &mut Store, name: Name)
     requires awaits { AwaitsEnd store.old }
     ensures has { (loads : List LoadEntry) (load : LoadEntry) (missing taken : ℕ)
-        → Has store.old (loads ++ load ∷ []) (missing + 1) taken
-        → Has store.new (loads ++ with_entry load name taken ∷ []) missing 0 }
+        → StoreHas store.old (loads ++ load ∷ []) (missing + 1) taken
+        → StoreHas store.new (loads ++ with_entry load name taken ∷ []) missing 0 }
     ensures given { (image : Image) (g : Given) → HasGiven store.old image g
         → HasGiven store.new image (with_file name g) }
     ensures continues { Continues store.old store.new }
 {
     match store.end_file(name) {
         Ok(()) => {}
+        // The premise says that the file fits.
         Err(_) => unreachable!(),
     }
 }
@@ -133,18 +137,18 @@ pub(crate) fn write_header<K: Disk>(
     store: &mut Store,
     disk: &mut K,
 ) -> Result<(), Down>
-    requires has { Has store.old whole.now.loads 0 0 }
+    requires has { StoreHas store.old whole.now.loads 0 0 }
     requires few { (length whole.now.loads < 32)
         × (length (files_of (header_view header.now)) ≤ 255) }
     requires room { total_length whole.now.loads + length bytes.now ≤ bank_size_of store.old }
     requires short { length bytes.now ≤ 65536 }
     requires part { length wanted.now.part ≡ 15 }
     requires running { IsRunning (K.state disk.old) }
-    ensures has { OnOk result (Has store.new
+    ensures has { OnOk result (StoreHas store.new
         (whole.now.loads ++ header_alone wanted.now header.now.type_id (length bytes.now) ∷ [])
         (length (files_of (header_view header.now))) 0) }
     ensures gives { (s : StandingView) (g : Given) → IsGiven store.old (K.state disk.old) s g
-        → Gives (K.state disk.old) store.new (K.state disk.new) s
+        → GivesContents (K.state disk.old) store.new (K.state disk.new) s
         (with_file wanted.now.header (with_bytes bytes.now
         (with_load wanted.now.part header.now.type_id
         (length (files_of (header_view header.now)) + 1) g))) result }
@@ -169,7 +173,7 @@ pub(crate) fn install<K: Disk>(
     active: &[ManifestLoad],
     new: &[ManifestLoad],
 ) -> Result<(), Down>
-    requires has { Has store.old (entries new.now) 0 0 }
+    requires has { StoreHas store.old (entries new.now) 0 0 }
     requires active { KnowsActive store.old (entries active.now) }
     requires room { HasRoomToKeep store.old (length new.now) (entries new.now)
         (kept_beside (entries active.now) (entries new.now)) }
@@ -199,15 +203,15 @@ fn keep_loads<K: Disk>(
     active: &[ManifestLoad],
     new: &[ManifestLoad],
 ) -> Result<(), Down>
-    requires has { Has store.old (entries new.now) 0 0 }
+    requires has { StoreHas store.old (entries new.now) 0 0 }
     requires active { KnowsActive store.old (entries active.now) }
     requires room { HasRoomToKeep store.old (length new.now) (entries new.now)
         (kept_beside (entries active.now) (entries new.now)) }
     requires running { IsRunning (K.state disk.old) }
-    ensures has { OnOk result (Has store.new
+    ensures has { OnOk result (StoreHas store.new
         (entries new.now ++ kept_beside (entries active.now) (entries new.now)) 0 0) }
     ensures gives { (s : StandingView) (g : Given) → IsGiven store.old (K.state disk.old) s g
-        → Gives (K.state disk.old) store.new (K.state disk.new) s
+        → GivesContents (K.state disk.old) store.new (K.state disk.new) s
         (with_whole_loads (kept_loads (types_of (entries new.now)) s.loads) g) result }
     ensures goes_on { OnOk result (StoreGoesOn store.old store.new (K.state disk.old)
         (K.state disk.new)) }
@@ -223,8 +227,8 @@ fn keep_loads<K: Disk>(
     Ok(())
 }
 
-/// Copies this load of the active configuration, which is the one of this number from 1 on, if it is
-/// kept beside the new ones.
+/// Copies this load of the active configuration, which is the one of this number from 1 on, if it
+/// is kept beside the new ones.
 fn keep_load<K: Disk>(
     store: &mut Store,
     disk: &mut K,
@@ -235,16 +239,17 @@ fn keep_load<K: Disk>(
     requires can { has_other_type (types_of (entries new.now)) load.now.type_id ≡ true
         → CanKeepLoad store.old number (entry_view load.now) }
     requires running { IsRunning (K.state disk.old) }
-    ensures has { (given : List LoadEntry) → Has store.old given 0 0 → OnOk result (Has store.new
+    ensures has { (given : List LoadEntry) → StoreHas store.old given 0 0
+        → OnOk result (StoreHas store.new
         (given ++ kept_entries (types_of (entries new.now)) (entry_view load.now ∷ [])) 0 0) }
     ensures gives { (s : StandingView) (g : Given) → IsGiven store.old (K.state disk.old) s g
         → (front back : List LoadView) (one : LoadView) → s.loads ≡ front ++ one ∷ back
         → length front + 1 ≡ number → one.type_id ≡ load.now.type_id
-        → Gives (K.state disk.old) store.new (K.state disk.new) s
+        → GivesContents (K.state disk.old) store.new (K.state disk.new) s
         (with_whole_loads (kept_loads (types_of (entries new.now)) (one ∷ [])) g) result }
     ensures none { has_other_type (types_of (entries new.now)) load.now.type_id ≡ false
         → (s : StandingView) (g : Given) → IsGiven store.old (K.state disk.old) s g
-        → Gives (K.state disk.old) store.new (K.state disk.new) s g result }
+        → GivesContents (K.state disk.old) store.new (K.state disk.new) s g result }
     ensures goes_on { OnOk result (StoreGoesOn store.old store.new (K.state disk.old)
         (K.state disk.new)) }
     ensures size { bank_size_of store.new ≡ bank_size_of store.old }

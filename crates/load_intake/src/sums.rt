@@ -31,7 +31,7 @@ impl Model for FileSums {
 
 impl FileSums {
     /// Nothing arrived yet of a file of this length, after a load with this check sum so far.
-    #[tactic(auto, using(crate::specs::Crcs::crc32_after_nothing))]
+    #[tactic(auto, using(crate::proofs::Crcs::crc32_after_nothing))]
     pub(crate) fn new(said: u32, load: Crc32) -> FileSums
         requires { load < 2 ^ 32 }
         ensures { result ≡ summed said load [] }

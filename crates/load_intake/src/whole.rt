@@ -1,7 +1,7 @@
 //! The loads of an upload that are whole.
 ghost use Rattle.std.specs.Prelude.{◌≡◌, ◌+◌, ◌*◌, ◌^◌, ◌<◌, ◌≤◌, ℕ, List as Items, length};
 ghost use Rattle.std.specs.Prelude.{Option, Some, None, slice_get, IfOk};
-ghost use Rattle.accept_rules.specs.Interlocks.{Follows};
+ghost use Rattle.accept_rules.specs.Interlocks.{FollowsAccepts};
 ghost use Rattle.accept_rules.specs.Permissions.{Accepts};
 ghost use Rattle.bank_store.specs.Keeps.{Continues};
 ghost use Rattle.bank_store.specs.Store.{IsIdle, IsPrepared};
@@ -13,7 +13,7 @@ ghost use Rattle.session_rules.specs.TargetRows.{stopped_upload};
 ghost use Rattle.session_rules.specs.Uploads.{OpenLoadView, files_of, is_last as is_last_of};
 ghost use Rattle.session_rules.specs.Uploads.{next_with};
 ghost use Rattle.load_intake.specs.Intakes.{end_view};
-ghost use Rattle.load_intake.specs.Judging.{Passes, loads_known, need_known, refused_for};
+ghost use Rattle.load_intake.specs.Judging.{PassesStoreTests, loads_known, need_known, refused_for};
 ghost use Rattle.load_intake.specs.Keeping.{entries, kept_with};
 ghost use Rattle.load_intake.specs.Needs.{load_need as load_need_of};
 ghost use Rattle.load_intake.specs.Places.{arrived_at, next_seen};
@@ -80,9 +80,9 @@ impl Whole {
         u64::from(self.need) + load_need(wanted, header, size)
     }
 
-    /// Why the header of the load that comes next is refused, if it is, where this is active and the
-    /// loads need so many bytes of a bank with it. At the last header it is known which loads are
-    /// kept, and they count too.
+    /// Why the header of the load that comes next is refused, if it is, where this is active and
+    /// the loads need so many bytes of a bank with it. At the last header it is known which loads
+    /// are kept, and they count too.
     pub(crate) fn header_reason<R: Rule>(
         &self,
         interlock: &Interlock<R>,
@@ -96,13 +96,13 @@ impl Whole {
         requires few { length self.now.request ≤ 32 }
         requires active { FitsALayout (entries active.now) }
         requires small { need ≤ 2 ^ 43 }
-        ensures is { (accepts : Accepts) → Follows R.may_say interlock.now accepts → result
+        ensures is { (accepts : Accepts) → FollowsAccepts R.may_say interlock.now accepts → result
             ≡ refused_for accepts identity.now wanted.now (header_view header.now)
             (told_loads (kept_with (entries active.now) self.now.loads header.now.type_id))
             (loads_known (entries active.now) self.now (header_view header.now))
             (need_known (entries active.now) self.now (header_view header.now) need) }
         ensures passed { result ≡ None
-            → Passes identity.now wanted.now (header_view header.now)
+            → PassesStoreTests identity.now wanted.now (header_view header.now)
             (loads_known (entries active.now) self.now (header_view header.now))
             (need_known (entries active.now) self.now (header_view header.now) need) }
     {

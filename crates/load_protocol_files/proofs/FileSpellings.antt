@@ -5,20 +5,20 @@ use Rattle.std.specs.List.{concat}
 use Rattle.std.proofs.lemmas.List.{append-nil}
 use Rattle.field_grammar.specs.Grammar.{Grammar, IsBytes, EndsTheBytes, Spelled, renamed, sized, expected}
 use Rattle.field_grammar.specs.Fields.{number, number_bytes, number_fields}
-use Rattle.field_grammar.specs.Answers.{answer, Gives}
+use Rattle.field_grammar.specs.Answers.{answer, AnswersAs}
 use Rattle.field_grammar.specs.Spelling.{IsSpelledBy, IsPlacedBy, SpellsWhole}
-use Rattle.field_grammar.specs.NumberLaws.{wide4, spelled-number, length_number_bytes}
-use Rattle.field_grammar.specs.CombinedLaws.{spelled-renamed, spelled-expected}
-use Rattle.field_grammar.specs.PlacedLaws.{placed, placed-as, placed-sized, placed-before, placed-ended}
-use Rattle.field_grammar.specs.ExactLaws.{whole_one_value, not_both, answer-spelled, spelled_at_start, decided, ends_at_end, ends_before, ends_last}
-use Rattle.field_grammar.specs.DecoderLaws.{found_spelling, only_spelling, spelled_by, spelling_is}
+use Rattle.field_grammar.proofs.NumberLemmas.{wide4, spelled-number, length_number_bytes}
+use Rattle.field_grammar.proofs.CombinedLemmas.{spelled-renamed, spelled-expected}
+use Rattle.field_grammar.proofs.PlacedLemmas.{placed, placed-as, placed-sized, placed-before, placed-ended}
+use Rattle.field_grammar.proofs.ExactLemmas.{whole_one_value, not_both, answer-spelled, spelled_at_start, decided, ends_at_end, ends_before, ends_last}
+use Rattle.field_grammar.proofs.DecoderLemmas.{found_spelling, only_spelling, spelled_by, spelling_is}
 use Rattle.load_protocol_files.specs.Faults.{named}
 use Rattle.load_protocol_files.specs.declared.fault.FileFault.{FileFault}
 use Rattle.load_protocol_files.specs.declared.fault.FileFault.TheVariants as faults
 use Rattle.load_protocol_files.specs.Pieces.{u16, u16_fields}
 use Rattle.field_grammar.specs.OneSpelling.{HasOneSpelling}
 use Rattle.load_protocol_files.specs.Files.{head, tail, file, file_fields, FileSpells, IsExact}
-use Rattle.load_protocol_files.specs.PieceLaws.{spelled-u16}
+use Rattle.load_protocol_files.specs.Laws.Pieces.{spelled-u16}
 
 -- ---- the head and the tail
 
@@ -105,14 +105,14 @@ if_ok P Q (Err f) there is = tt
 
 -- a decoder finds what is spelled
 pub file_found : {T A : Type 0} (view : T → A) (body : Grammar FileFault A) (s : A → List (List ℕ)) (P : A → Type 0) (bytes : List ℕ) (r : Result T FileFault)
-    → IsSpelledBy body s P → IsBytes bytes → Gives faults.Memory view r (answer (file body) bytes) → IfOk r (λ x. FileSpells s P (view x) bytes)
+    → IsSpelledBy body s P → IsBytes bytes → AnswersAs faults.Memory view r (answer (file body) bytes) → IfOk r (λ x. FileSpells s P (view x) bytes)
 file_found view body s P bytes r one fit gives =
     if_ok (λ x. FileFits s P (view x) × (bytes ≡ concat (file_fields (s (view x))))) (λ x. FileSpells s P (view x) bytes) r (λ x is. to_spells s P (view x) bytes is)
     (found_spelling faults.Memory view (file body) (λ value. file_fields (s value)) (FileFits s P) bytes r (spells-file body s P one) fit gives)
 
 -- and nothing else
 pub file_only : {T A : Type 0} (view : T → A) (body : Grammar FileFault A) (s : A → List (List ℕ)) (P : A → Type 0) (bytes : List ℕ) (r : Result T FileFault)
-    → IsSpelledBy body s P → Gives faults.Memory view r (answer (file body) bytes) → (v : A) → FileSpells s P v bytes → Gives faults.Memory view r (Ok v)
+    → IsSpelledBy body s P → AnswersAs faults.Memory view r (answer (file body) bytes) → (v : A) → FileSpells s P v bytes → AnswersAs faults.Memory view r (Ok v)
 file_only view body s P bytes r one gives v is =
     only_spelling faults.Memory view (file body) (λ value. file_fields (s value)) (FileFits s P) bytes r (spells-file body s P one) gives v (from_spells s P v bytes is)
 

@@ -3,15 +3,10 @@ pub mod Faults
 pub mod Files
 pub mod Lci
 pub mod Lcl
-pub mod LclLaws
 pub mod Lcs
-pub mod LcsLaws
 pub mod Lui
 pub mod Lur
-pub mod LurLaws
 pub mod Lus
-pub mod LusLaws
-pub mod PieceLaws
 pub mod Pieces
 pub mod Reply
-pub mod ReplyLaws
+pub mod Laws

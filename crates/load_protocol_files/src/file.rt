@@ -4,7 +4,7 @@ ghost use Rattle.std.specs.Prelude.{◌≡◌, ◌++◌, ◌⊎◌, ◌+◌, ◌
 ghost use Rattle.std.specs.Prelude.{OnOk};
 ghost use Rattle.std.specs.List.{concat};
 ghost use Rattle.field_grammar.specs.Grammar.{Grammar, Fault};
-ghost use Rattle.field_grammar.specs.Answers.{Decodes, Gives, answer};
+ghost use Rattle.field_grammar.specs.Answers.{Decodes, AnswersAs, answer};
 ghost use Rattle.field_grammar.specs.Spelling.{IsSpelledBy};
 ghost use Rattle.load_protocol_files.specs.Files.{file, FileSpells};
 ghost use Rattle.load_protocol_files.specs.declared.fault.FileFault.{FileFault};
@@ -56,18 +56,18 @@ pub(crate) trait ProtocolFile: Drop {
 pub(crate) fn decode<F: ProtocolFile>(alloc: Global, bytes: &[u8]) -> Result<F, FileFault>
     ensures found { IfOk result (λ it. FileSpells F.fields F.Fits (F.view it) bytes.now) }
     ensures only { (v : F.Value) → FileSpells F.fields F.Fits v bytes.now
-        → Gives Memory F.view result (Ok v) }
+        → AnswersAs Memory F.view result (Ok v) }
     ensures refused { IfErr result (λ fault.
         (fault ≡ Memory) ⊎ Fault (file F.body) bytes.now fault) }
     ensures faulty { (fault : FileFault) → Fault (file F.body) bytes.now fault
-        → Gives Memory F.view result (Err fault) }
-    ensures answers { Gives Memory F.view result (answer (file F.body) bytes.now) }
+        → AnswersAs Memory F.view result (Err fault) }
+    ensures answers { AnswersAs Memory F.view result (answer (file F.body) bytes.now) }
 {
     read_file::<F>(alloc, bytes)
 }
 
 fn read_file<F: ProtocolFile>(alloc: Global, bytes: &[u8]) -> Result<F, FileFault>
-    ensures { Gives Memory F.view result (answer (file F.body) bytes.now) }
+    ensures { AnswersAs Memory F.view result (answer (file F.body) bytes.now) }
 {
     let mut reader = Reader::new(bytes);
     head_of(&mut reader)?;

@@ -1,7 +1,7 @@
 //! Configuration initialization files.
-ghost use Rattle.std.specs.Prelude.{◌≡◌, ◌⊎◌, List, ℕ, IfOk, IfErr};
+ghost use Rattle.std.specs.Prelude.{◌≡◌, ◌⊎◌, IfOk, IfErr};
 ghost use Rattle.field_grammar.specs.Grammar.{Fault};
-ghost use Rattle.field_grammar.specs.Answers.{Gives, answer};
+ghost use Rattle.field_grammar.specs.Answers.{AnswersAs, answer};
 ghost use Rattle.load_protocol_files.specs.declared.fault.FileFault.{FileFault};
 ghost use Rattle.load_protocol_files.specs.declared.fault.FileFault.TheVariants.{Memory};
 ghost use Rattle.load_protocol_files.specs.Lci.{lci, LciSpells};
@@ -29,11 +29,11 @@ impl Lci {
     /// The file that the bytes spell, or their first fault from left to right.
     pub fn decode(alloc: Global, bytes: &[u8]) -> Result<Lci, FileFault>
         ensures found { IfOk result (λ v. LciSpells v bytes.now) }
-        ensures only { (v : Lci) → LciSpells v bytes.now → Gives Memory (λ v. v) result (Ok v) }
+        ensures only { (v : Lci) → LciSpells v bytes.now → AnswersAs Memory (λ v. v) result (Ok v) }
         ensures refused { IfErr result (λ e. (e ≡ Memory) ⊎ Fault lci bytes.now e) }
         ensures faulty { (f : FileFault) → Fault lci bytes.now f
-            → Gives Memory (λ v. v) result (Err f) }
-        ensures answers { Gives Memory (λ v. v) result (answer lci bytes.now) }
+            → AnswersAs Memory (λ v. v) result (Err f) }
+        ensures answers { AnswersAs Memory (λ v. v) result (answer lci bytes.now) }
     {
         file::decode(alloc, bytes)
     }
@@ -49,7 +49,7 @@ impl Lci {
 impl ProtocolFile for Lci {
     ghost use Rattle.load_protocol_files.specs.declared.lci.Lci.{Lci};
     ghost use Rattle.load_protocol_files.specs.Lci.{lci_body, lci_fields, LciFits};
-    ghost use Rattle.load_protocol_files.specs.ReplyLaws.{spelled-lci, reply_is_small};
+    ghost use Rattle.load_protocol_files.specs.Laws.Replies.{spelled-lci, reply_is_small};
 
     ghost Value = { Lci };
 

@@ -1,12 +1,11 @@
 //! Configuration list files.
 ghost use Rattle.std.specs.Prelude.{◌≡◌, ◌↔◌, ◌-◌, min, IsTrue, ◌+◌, ◌++◌, ◌⊎◌, ◌≤◌, ◌<◌, ◌^◌};
-ghost use Rattle.std.specs.Prelude.{List, ℕ, length, map, IfOk, IfErr, OnOk};
+ghost use Rattle.std.specs.Prelude.{List, length, map, IfOk, IfErr, OnOk};
 ghost use Rattle.std.specs.List.{concat, flat_map, All};
 ghost use Rattle.field_grammar.specs.Grammar.{Fault, times};
-ghost use Rattle.field_grammar.specs.Answers.{answer, Decodes, Gives};
+ghost use Rattle.field_grammar.specs.Answers.{answer, Decodes, AnswersAs};
 ghost use Rattle.load_protocol_files.specs.declared.fault.FileFault.{FileFault};
 ghost use Rattle.load_protocol_files.specs.declared.fault.FileFault.TheVariants.{Memory};
-ghost use Rattle.load_protocol_files.specs.Pieces.{counted};
 ghost use Rattle.load_protocol_files.specs.Lcl.{IsWritableLcl, installed, installed_fields};
 ghost use Rattle.load_protocol_files.specs.Lcl.{InstalledFits, hardware, hardware_fields};
 ghost use Rattle.load_protocol_files.specs.Lcl.{hardware_view, HardwareFits, LclView, lcl_view};
@@ -54,18 +53,19 @@ impl Lcl {
     /// The file that the bytes spell, or their first fault from left to right.
     pub fn decode(alloc: Global, bytes: &[u8]) -> Result<Lcl, FileFault>
         ensures found { IfOk result (λ v. LclSpells (lcl_view v) bytes.now) }
-        ensures only { (v : LclView) → LclSpells v bytes.now → Gives Memory lcl_view result (Ok v) }
+        ensures only { (v : LclView) → LclSpells v bytes.now
+            → AnswersAs Memory lcl_view result (Ok v) }
         ensures refused { IfErr result (λ e. (e ≡ Memory) ⊎ Fault lcl bytes.now e) }
         ensures faulty { (f : FileFault) → Fault lcl bytes.now f
-            → Gives Memory lcl_view result (Err f) }
-        ensures answers { Gives Memory lcl_view result (answer lcl bytes.now) }
+            → AnswersAs Memory lcl_view result (Err f) }
+        ensures answers { AnswersAs Memory lcl_view result (answer lcl bytes.now) }
     {
         file::decode(alloc, bytes)
     }
 
     /// Whether the file can be written: each list has at most 65,535 members, and the file at most
     /// 4,294,967,295 bytes.
-    #[tactic(auto, using(crate::specs::LclLaws::fits_by_size))]
+    #[tactic(auto, using(crate::specs::Laws::Lcl::fits_by_size))]
     pub fn fits(&self) -> bool
         ensures { IsTrue result ↔ IsWritableLcl self.now }
     {
@@ -92,7 +92,7 @@ impl Lcl {
 impl ProtocolFile for Lcl {
     ghost use Rattle.load_protocol_files.specs.Lcl.{LclView, lcl_view, lcl_body, lcl_fields};
     ghost use Rattle.load_protocol_files.specs.Lcl.{LclFits, IsWritableLcl};
-    ghost use Rattle.load_protocol_files.specs.LclLaws.{spelled-lcl, lcl_is_small};
+    ghost use Rattle.load_protocol_files.specs.Laws.Lcl.{spelled-lcl, lcl_is_small};
 
     ghost Value = { LclView };
 
@@ -126,7 +126,7 @@ impl ProtocolFile for Lcl {
     }
 }
 
-#[tactic(auto, using(field_grammar::specs::LoopLaws::goes_on_seen, field_grammar::specs::LoopLaws::ends, field_grammar::specs::LoopLaws::is_done, field_grammar::specs::LoopLaws::begins))]
+#[tactic(auto, using(field_grammar::proofs::LoopLemmas::goes_on_seen, field_grammar::proofs::LoopLemmas::ends, field_grammar::proofs::LoopLemmas::is_done, field_grammar::proofs::LoopLemmas::begins))]
 fn hardware_list_of(
     alloc: Global,
     count: u16,
@@ -148,7 +148,7 @@ fn have_few_parts(list: &[Hardware]) -> bool
     list.iter().all(|hardware| hardware.parts.len() <= 65_535)
 }
 
-// How many bytes the hardware takes, up to the greatest `u64`.
+/// How many bytes the hardware takes, up to the greatest `u64`.
 fn size_of_list(list: &[Hardware]) -> u64
     ensures { result ≡ min (length (concat (flat_map hardware_fields (map hardware_view list.now))))
         (2 ^ 64 - 1) }
@@ -160,7 +160,7 @@ fn size_of_list(list: &[Hardware]) -> u64
     size
 }
 
-#[tactic(auto, using(crate::specs::LclLaws::hardware_size))]
+#[tactic(auto, using(crate::specs::Laws::Lcl::hardware_size))]
 fn size_of_hardware(hardware: &Hardware) -> u64
     ensures { result
         ≡ min (length (concat (hardware_fields (hardware_view hardware.now)))) (2 ^ 64 - 1) }
@@ -179,7 +179,7 @@ fn size_of_parts(parts: &[Part]) -> u64
     size
 }
 
-#[tactic(auto, using(crate::specs::LclLaws::installed_size))]
+#[tactic(auto, using(crate::specs::Laws::Lcl::installed_size))]
 fn size_of_part(part: &Part) -> u64
     ensures { result ≡ length (concat (installed_fields part.now)) }
 {
@@ -202,7 +202,7 @@ fn hardware_of(alloc: Global, reader: &mut Reader) -> Result<Hardware, FileFault
     })
 }
 
-#[tactic(auto, using(field_grammar::specs::LoopLaws::goes_on, field_grammar::specs::LoopLaws::ends, field_grammar::specs::LoopLaws::is_done, field_grammar::specs::LoopLaws::begins))]
+#[tactic(auto, using(field_grammar::proofs::LoopLemmas::goes_on, field_grammar::proofs::LoopLemmas::ends, field_grammar::proofs::LoopLemmas::is_done, field_grammar::proofs::LoopLemmas::begins))]
 fn parts_of(alloc: Global, count: u16, reader: &mut Reader) -> Result<List<Part>, FileFault>
     ensures { Decodes Memory (λ parts. parts.items)
         (times count installed) reader.old result reader.new }

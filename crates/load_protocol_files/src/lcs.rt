@@ -1,8 +1,7 @@
 //! Configuration status files.
-ghost use Rattle.std.specs.Prelude.{◌≡◌, ◌++◌, ◌⊎◌, List, ℕ, IfOk, IfErr, OnOk};
-ghost use Rattle.std.specs.List.{concat};
+ghost use Rattle.std.specs.Prelude.{◌≡◌, ◌⊎◌, IfOk, IfErr};
 ghost use Rattle.field_grammar.specs.Grammar.{Fault};
-ghost use Rattle.field_grammar.specs.Answers.{answer, Decodes, Gives};
+ghost use Rattle.field_grammar.specs.Answers.{answer, AnswersAs};
 ghost use Rattle.load_protocol_files.specs.declared.fault.FileFault.{FileFault};
 ghost use Rattle.load_protocol_files.specs.declared.fault.FileFault.TheVariants.{Memory};
 ghost use Rattle.load_protocol_files.specs.Lcs.{lcs, lcs_body, lcs_fields, LcsFits, LcsSpells};
@@ -37,11 +36,11 @@ impl Lcs {
     /// The file that the bytes spell, or their first fault from left to right.
     pub fn decode(alloc: Global, bytes: &[u8]) -> Result<Lcs, FileFault>
         ensures found { IfOk result (λ v. LcsSpells v bytes.now) }
-        ensures only { (v : Lcs) → LcsSpells v bytes.now → Gives Memory (λ v. v) result (Ok v) }
+        ensures only { (v : Lcs) → LcsSpells v bytes.now → AnswersAs Memory (λ v. v) result (Ok v) }
         ensures refused { IfErr result (λ e. (e ≡ Memory) ⊎ Fault lcs bytes.now e) }
         ensures faulty { (f : FileFault) → Fault lcs bytes.now f
-            → Gives Memory (λ v. v) result (Err f) }
-        ensures answers { Gives Memory (λ v. v) result (answer lcs bytes.now) }
+            → AnswersAs Memory (λ v. v) result (Err f) }
+        ensures answers { AnswersAs Memory (λ v. v) result (answer lcs bytes.now) }
     {
         file::decode(alloc, bytes)
     }
@@ -57,7 +56,7 @@ impl Lcs {
 impl ProtocolFile for Lcs {
     ghost use Rattle.load_protocol_files.specs.declared.lcs.Lcs.{Lcs};
     ghost use Rattle.load_protocol_files.specs.Lcs.{lcs_body, lcs_fields, LcsFits};
-    ghost use Rattle.load_protocol_files.specs.LcsLaws.{spelled-lcs, lcs_is_small};
+    ghost use Rattle.load_protocol_files.specs.Laws.Lcs.{spelled-lcs, lcs_is_small};
 
     ghost Value = { Lcs };
 

@@ -1,7 +1,7 @@
 //! Upload initialization files.
-ghost use Rattle.std.specs.Prelude.{◌≡◌, ◌⊎◌, List, ℕ, IfOk, IfErr};
+ghost use Rattle.std.specs.Prelude.{◌≡◌, ◌⊎◌, IfOk, IfErr};
 ghost use Rattle.field_grammar.specs.Grammar.{Fault};
-ghost use Rattle.field_grammar.specs.Answers.{Gives, answer};
+ghost use Rattle.field_grammar.specs.Answers.{AnswersAs, answer};
 ghost use Rattle.load_protocol_files.specs.declared.fault.FileFault.{FileFault};
 ghost use Rattle.load_protocol_files.specs.declared.fault.FileFault.TheVariants.{Memory};
 ghost use Rattle.load_protocol_files.specs.Lui.{lui, LuiSpells};
@@ -29,11 +29,11 @@ impl Lui {
     /// The file that the bytes spell, or their first fault from left to right.
     pub fn decode(alloc: Global, bytes: &[u8]) -> Result<Lui, FileFault>
         ensures found { IfOk result (λ v. LuiSpells v bytes.now) }
-        ensures only { (v : Lui) → LuiSpells v bytes.now → Gives Memory (λ v. v) result (Ok v) }
+        ensures only { (v : Lui) → LuiSpells v bytes.now → AnswersAs Memory (λ v. v) result (Ok v) }
         ensures refused { IfErr result (λ e. (e ≡ Memory) ⊎ Fault lui bytes.now e) }
         ensures faulty { (f : FileFault) → Fault lui bytes.now f
-            → Gives Memory (λ v. v) result (Err f) }
-        ensures answers { Gives Memory (λ v. v) result (answer lui bytes.now) }
+            → AnswersAs Memory (λ v. v) result (Err f) }
+        ensures answers { AnswersAs Memory (λ v. v) result (answer lui bytes.now) }
     {
         file::decode(alloc, bytes)
     }
@@ -49,7 +49,7 @@ impl Lui {
 impl ProtocolFile for Lui {
     ghost use Rattle.load_protocol_files.specs.declared.lui.Lui.{Lui};
     ghost use Rattle.load_protocol_files.specs.Lui.{lui_body, lui_fields, LuiFits};
-    ghost use Rattle.load_protocol_files.specs.ReplyLaws.{spelled-lui, reply_is_small};
+    ghost use Rattle.load_protocol_files.specs.Laws.Replies.{spelled-lui, reply_is_small};
 
     ghost Value = { Lui };
 

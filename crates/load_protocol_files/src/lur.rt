@@ -1,10 +1,10 @@
 //! Upload request files.
-ghost use Rattle.std.specs.Prelude.{◌≡◌, ◌+◌, ◌*◌, ◌↔◌, IsTrue, ◌++◌, ◌⊎◌, ◌≤◌, ◌<◌, ◌^◌};
-ghost use Rattle.std.specs.Prelude.{List, ℕ, length};
+ghost use Rattle.std.specs.Prelude.{◌≡◌, ◌+◌, ◌*◌, ◌↔◌, IsTrue, ◌++◌, ◌⊎◌, ◌≤◌, ◌<◌};
+ghost use Rattle.std.specs.Prelude.{List, length};
 ghost use Rattle.std.specs.Prelude.{IfOk, IfErr, OnOk};
 ghost use Rattle.std.specs.List.{concat, flat_map, All};
 ghost use Rattle.field_grammar.specs.Grammar.{Fault, times};
-ghost use Rattle.field_grammar.specs.Answers.{answer, Decodes, Gives};
+ghost use Rattle.field_grammar.specs.Answers.{answer, Decodes, AnswersAs};
 ghost use Rattle.load_protocol_files.specs.declared.fault.FileFault.{FileFault};
 ghost use Rattle.load_protocol_files.specs.declared.fault.FileFault.TheVariants.{Memory};
 ghost use Rattle.load_protocol_files.specs.Lur.{IsWritableLur, wanted, wanted_fields, WantedFits};
@@ -40,11 +40,12 @@ impl Lur {
     /// The file that the bytes spell, or their first fault from left to right.
     pub fn decode(alloc: Global, bytes: &[u8]) -> Result<Lur, FileFault>
         ensures found { IfOk result (λ v. LurSpells (lur_view v) bytes.now) }
-        ensures only { (v : LurView) → LurSpells v bytes.now → Gives Memory lur_view result (Ok v) }
+        ensures only { (v : LurView) → LurSpells v bytes.now
+            → AnswersAs Memory lur_view result (Ok v) }
         ensures refused { IfErr result (λ e. (e ≡ Memory) ⊎ Fault lur bytes.now e) }
         ensures faulty { (f : FileFault) → Fault lur bytes.now f
-            → Gives Memory lur_view result (Err f) }
-        ensures answers { Gives Memory lur_view result (answer lur bytes.now) }
+            → AnswersAs Memory lur_view result (Err f) }
+        ensures answers { AnswersAs Memory lur_view result (answer lur bytes.now) }
     {
         file::decode(alloc, bytes)
     }
@@ -70,7 +71,7 @@ impl Lur {
 impl ProtocolFile for Lur {
     ghost use Rattle.load_protocol_files.specs.Lur.{LurView, lur_view, lur_body, lur_fields};
     ghost use Rattle.load_protocol_files.specs.Lur.{LurFits, IsWritableLur};
-    ghost use Rattle.load_protocol_files.specs.LurLaws.{spelled-lur, lur_is_small};
+    ghost use Rattle.load_protocol_files.specs.Laws.Lur.{spelled-lur, lur_is_small};
 
     ghost Value = { LurView };
 
@@ -104,7 +105,7 @@ impl ProtocolFile for Lur {
     }
 }
 
-#[tactic(auto, using(field_grammar::specs::LoopLaws::goes_on, field_grammar::specs::LoopLaws::ends, field_grammar::specs::LoopLaws::is_done, field_grammar::specs::LoopLaws::begins))]
+#[tactic(auto, using(field_grammar::proofs::LoopLemmas::goes_on, field_grammar::proofs::LoopLemmas::ends, field_grammar::proofs::LoopLemmas::is_done, field_grammar::proofs::LoopLemmas::begins))]
 fn loads_of(alloc: Global, count: u16, reader: &mut Reader) -> Result<List<Wanted>, FileFault>
     ensures { Decodes Memory (λ loads. loads.items)
         (times count wanted) reader.old result reader.new }

@@ -1,9 +1,9 @@
 //! Upload status files.
-ghost use Rattle.std.specs.Prelude.{◌≡◌, ◌↔◌, IsTrue, ◌++◌, ◌⊎◌, ◌≤◌, ◌<◌, ◌^◌, List, ℕ, length};
+ghost use Rattle.std.specs.Prelude.{◌≡◌, ◌↔◌, IsTrue, ◌++◌, ◌⊎◌, ◌≤◌, ◌<◌, List, length};
 ghost use Rattle.std.specs.Prelude.{IfOk, IfErr, OnOk};
 ghost use Rattle.std.specs.List.{concat, flat_map, All};
 ghost use Rattle.field_grammar.specs.Grammar.{Fault, times};
-ghost use Rattle.field_grammar.specs.Answers.{answer, Decodes, Gives};
+ghost use Rattle.field_grammar.specs.Answers.{answer, Decodes, AnswersAs};
 ghost use Rattle.load_protocol_files.specs.declared.fault.FileFault.{FileFault};
 ghost use Rattle.load_protocol_files.specs.declared.fault.FileFault.TheVariants.{Memory};
 ghost use Rattle.load_protocol_files.specs.Pieces.{counted};
@@ -60,11 +60,12 @@ impl Lus {
     /// The file that the bytes spell, or their first fault from left to right.
     pub fn decode(alloc: Global, bytes: &[u8]) -> Result<Lus, FileFault>
         ensures found { IfOk result (λ v. LusSpells (lus_view v) bytes.now) }
-        ensures only { (v : LusView) → LusSpells v bytes.now → Gives Memory lus_view result (Ok v) }
+        ensures only { (v : LusView) → LusSpells v bytes.now
+            → AnswersAs Memory lus_view result (Ok v) }
         ensures refused { IfErr result (λ e. (e ≡ Memory) ⊎ Fault lus bytes.now e) }
         ensures faulty { (f : FileFault) → Fault lus bytes.now f
-            → Gives Memory lus_view result (Err f) }
-        ensures answers { Gives Memory lus_view result (answer lus bytes.now) }
+            → AnswersAs Memory lus_view result (Err f) }
+        ensures answers { AnswersAs Memory lus_view result (answer lus bytes.now) }
     {
         file::decode(alloc, bytes)
     }
@@ -90,7 +91,7 @@ impl Lus {
 impl ProtocolFile for Lus {
     ghost use Rattle.load_protocol_files.specs.Lus.{LusView, lus_view, lus_body, lus_fields};
     ghost use Rattle.load_protocol_files.specs.Lus.{LusFits, IsWritableLus};
-    ghost use Rattle.load_protocol_files.specs.LusLaws.{spelled-lus, lus_is_small};
+    ghost use Rattle.load_protocol_files.specs.Laws.Lus.{spelled-lus, lus_is_small};
 
     ghost Value = { LusView };
 
@@ -145,7 +146,7 @@ fn counted_loads_of(alloc: Global, reader: &mut Reader) -> Result<List<LoadStatu
     Ok(loads)
 }
 
-#[tactic(auto, using(field_grammar::specs::LoopLaws::goes_on, field_grammar::specs::LoopLaws::ends, field_grammar::specs::LoopLaws::is_done, field_grammar::specs::LoopLaws::begins))]
+#[tactic(auto, using(field_grammar::proofs::LoopLemmas::goes_on, field_grammar::proofs::LoopLemmas::ends, field_grammar::proofs::LoopLemmas::is_done, field_grammar::proofs::LoopLemmas::begins))]
 fn loads_of(alloc: Global, count: u16, reader: &mut Reader) -> Result<List<LoadStatus>, FileFault>
     ensures { Decodes Memory (λ loads. loads.items)
         (times count load_status) reader.old result reader.new }

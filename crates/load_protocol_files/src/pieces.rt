@@ -1,6 +1,6 @@
 //! Reads the pieces that all protocol files are made of.
 ghost use Rattle.std.specs.Prelude.{◌≡◌, length, if◌then◌else◌};
-ghost use Rattle.field_grammar.specs.Answers.{Decodes, Gives};
+ghost use Rattle.field_grammar.specs.Answers.{Decodes, AnswersAs};
 ghost use Rattle.load_protocol_files.specs.declared.fault.FileFault.TheVariants.{Memory};
 ghost use Rattle.load_protocol_files.specs.Pieces.{text, name, part, ratio, text_verdict};
 ghost use Rattle.load_protocol_files.specs.Pieces.{name_verdict, part_verdict, is_ratio};
@@ -56,9 +56,9 @@ pub(crate) fn text_of(alloc: Global, reader: &mut Reader) -> Result<Text, FileFa
     Ok(text)
 }
 
-#[tactic(auto, using(load_base::specs::VerdictLaws::read_judged, load_base::specs::VerdictLaws::refused_judged))]
+#[tactic(auto, using(load_base::proofs::VerdictLemmas::read_judged, load_base::proofs::VerdictLemmas::refused_judged))]
 fn judge_text(alloc: Global, offset: u64, bytes: &[u8]) -> Result<Text, FileFault>
-    ensures { Gives Memory (λ text. text) result (text_verdict offset bytes.now) }
+    ensures { AnswersAs Memory (λ text. text) result (text_verdict offset bytes.now) }
 {
     match Text::read(alloc, bytes) {
         Ok(text) => Ok(text),
@@ -82,7 +82,7 @@ pub(crate) fn name_of(reader: &mut Reader) -> Result<Name, FileFault>
     Ok(name)
 }
 
-#[tactic(auto, using(load_base::specs::VerdictLaws::read_judged, load_base::specs::VerdictLaws::refused_judged))]
+#[tactic(auto, using(load_base::proofs::VerdictLemmas::read_judged, load_base::proofs::VerdictLemmas::refused_judged))]
 fn judge_name(offset: u64, bytes: &[u8]) -> Result<Name, FileFault>
     ensures { result ≡ name_verdict offset bytes.now }
 {
@@ -107,7 +107,7 @@ pub(crate) fn part_of(reader: &mut Reader) -> Result<PartNumber, FileFault>
     Ok(part)
 }
 
-#[tactic(auto, using(load_base::specs::VerdictLaws::read_judged, load_base::specs::VerdictLaws::refused_judged))]
+#[tactic(auto, using(load_base::proofs::VerdictLemmas::read_judged, load_base::proofs::VerdictLemmas::refused_judged))]
 fn judge_part(offset: u64, bytes: &[u8]) -> Result<PartNumber, FileFault>
     ensures { result ≡ part_verdict offset bytes.now }
 {
@@ -133,7 +133,7 @@ pub(crate) fn ratio_of(reader: &mut Reader) -> Result<u8, FileFault>
     }
 }
 
-// What three digits say, where they say 100 at most.
+/// What three digits say, where they say 100 at most.
 fn value_of_digits(bytes: &[u8]) -> Option<u8>
     requires { length bytes.now ≡ 3 }
     ensures { result ≡ (if is_ratio bytes.now then Some (ratio_value bytes.now) else None) }

@@ -1,5 +1,5 @@
 //! Writes the pieces that all protocol files are made of.
-ghost use Rattle.std.specs.Prelude.{◌≡◌, ◌++◌, ◌≤◌, ◌+◌, ◌<◌, ◌^◌, List, ℕ, length, OnOk, IfOk};
+ghost use Rattle.std.specs.Prelude.{◌≡◌, ◌++◌, ◌≤◌, ◌+◌, ◌<◌, ◌^◌, length, OnOk, IfOk};
 ghost use Rattle.std.specs.List.{concat};
 ghost use Rattle.field_grammar.specs.Fields.{short_fields};
 ghost use Rattle.load_base.specs.Text.{IsText};
@@ -29,7 +29,7 @@ pub(crate) fn put_name(out: &mut Writer, name: &Name) -> Result<(), NoMemory>
     Ok(())
 }
 
-#[tactic(auto, using(part_number::specs::VerdictLaws::part_size))]
+#[tactic(auto, using(part_number::proofs::VerdictLemmas::part_size))]
 pub(crate) fn put_part(out: &mut Writer, part: &PartNumber) -> Result<(), NoMemory>
     ensures fits { IsPartNumberText part.now }
     ensures ok { OnOk result (out.new ≡ out.old ++ concat (short_fields part.now)) }

@@ -6,8 +6,8 @@ use Rattle.std.specs.Bool.{Decides}
 use Rattle.std.specs.Cmp.Lexicographic.{pointwise, pointwise_decides}
 use Rattle.std.proofs.lemmas.Fmt.{decimal_injective}
 use Rattle.load_base.specs.Bytes.{same_bytes}
-use Rattle.load_base.specs.EqualityLaws.{equal_bytes}
-use Rattle.loader_cli.specs.Builds.{Builds, Makes}
+use Rattle.load_base.proofs.EqualityLemmas.{equal_bytes}
+use Rattle.loader_cli.specs.Builds.{BuildsFolder, MakesFolder}
 use Rattle.loader_cli.specs.Commands.{CommandView, FormatsOrRollsBack, IsCommand, IsNo, IsPlain, disk_named}
 use Rattle.loader_cli.specs.Commands.IsCommand.{on, plain}
 use Rattle.loader_cli.specs.Commands.CommandView.{list, format, show, check, build, make, replay, wire, trial, rollback, fleet}
@@ -119,7 +119,7 @@ says_of_check work folder status text asked (checks other is found) =
     subst (λ (f : List ℕ). Checks f work.files work.host_faults work.host_faults_after status text) (one_folder work.words folder other asked is) found
 
 pub says_of_build : (work : Work) (recipe folder : List ℕ) (status : ℕ) (text : List ℕ) → IsCommand work.words (build recipe folder) → Says work status text
-    → Builds recipe folder (host_work work) status text
+    → BuildsFolder recipe folder (host_work work) status text
 unfolding verb
 says_of_build work recipe folder status text asked (refused none _ _) = absurd (none (build recipe folder) asked tt)
 says_of_build work recipe folder status text asked (rolls_back is _) = absurd (apart_verbs (same_verb work.words (build recipe folder) rollback asked is) refl)
@@ -133,10 +133,10 @@ says_of_build work recipe folder status text asked (checks other is _) = absurd 
 says_of_build work recipe folder status text asked (makes number other is _) = absurd (apart_verbs (same_verb work.words (build recipe folder) (make number other) asked is) refl)
 says_of_build work recipe folder status text asked (builds recipe_2 folder_2 is found) =
     let same = one_build work.words recipe folder recipe_2 folder_2 asked is in
-    subst (λ (r : List ℕ). Builds r folder (host_work work) status text) same.0 (subst (λ (f : List ℕ). Builds recipe_2 f (host_work work) status text) same.1 found)
+    subst (λ (r : List ℕ). BuildsFolder r folder (host_work work) status text) same.0 (subst (λ (f : List ℕ). BuildsFolder recipe_2 f (host_work work) status text) same.1 found)
 
 pub says_of_make : (work : Work) (number : ℕ) (folder : List ℕ) (status : ℕ) (text : List ℕ) → IsCommand work.words (make number folder) → Says work status text
-    → Makes number folder (host_work work) status text
+    → MakesFolder number folder (host_work work) status text
 unfolding verb
 says_of_make work number folder status text asked (refused none _ _) = absurd (none (make number folder) asked tt)
 says_of_make work number folder status text asked (rolls_back is _) = absurd (apart_verbs (same_verb work.words (make number folder) rollback asked is) refl)
@@ -150,7 +150,7 @@ says_of_make work number folder status text asked (checks other is _) = absurd (
 says_of_make work number folder status text asked (builds recipe other is _) = absurd (apart_verbs (same_verb work.words (make number folder) (build recipe other) asked is) refl)
 says_of_make work number folder status text asked (makes number_2 folder_2 is found) =
     let same = one_make work.words number number_2 folder folder_2 asked is in
-    subst (λ (n : ℕ). Makes n folder (host_work work) status text) same.0 (subst (λ (f : List ℕ). Makes number_2 f (host_work work) status text) same.1 found)
+    subst (λ (n : ℕ). MakesFolder n folder (host_work work) status text) same.0 (subst (λ (f : List ℕ). MakesFolder number_2 f (host_work work) status text) same.1 found)
 
 -- what is said of a trial
 pub one_trial : (words : List (List ℕ)) (number number_2 : ℕ) → IsCommand words (trial number) → IsCommand words (trial number_2) → number_2 ≡ number

@@ -5,7 +5,7 @@ use Rattle.load_base.specs.Counts.{Rose}
 use Rattle.load_base.specs.Host.{Files}
 use Rattle.load_base.specs.declared.sink.WriteFault.TheVariants.{Failed}
 use Rattle.media_build.specs.Building.{AnswersSizes, Builds as BuildsOf}
-use Rattle.media_build.specs.HostWrites.{Writes, written_files}
+use Rattle.media_build.specs.HostWrites.{WritesToHost, written_files}
 use Rattle.media_build.specs.RecipeSets.{loads_of}
 use Rattle.media_build.specs.Recipes.{recipe_said}
 use Rattle.media_build.specs.declared.building_fault.BuildFault.{BuildFault}
@@ -47,9 +47,9 @@ rose_since first before now later rose = omega (arith, later, rose)
 pub set_since : (files : Option Files) (faults : ℕ) (folder : List ℕ) (set : Built) (loads : ℕ) (host : HostWork) (status : ℕ) (text : List ℕ) → host.files ≡ files → faults ≤ host.faults
     → WritesSet folder set loads host status text → WritesSet folder set loads (since files faults host) status text
 set_since files faults folder set loads host status text kept later (written wrote is text_is) =
-    written (subst (λ (f : Option Files). Writes (written_files folder set) f host.files_after (Ok tt)) kept wrote) is text_is
+    written (subst (λ (f : Option Files). WritesToHost (written_files folder set) f host.files_after (Ok tt)) kept wrote) is text_is
 set_since files faults folder set loads host status text kept later (unwritten wrote rose is text_is) =
-    unwritten (subst (λ (f : Option Files). Writes (written_files folder set) f host.files_after (Err Failed)) kept wrote) (rose_since faults host.faults host.faults_after later rose) is text_is
+    unwritten (subst (λ (f : Option Files). WritesToHost (written_files folder set) f host.files_after (Err Failed)) kept wrote) (rose_since faults host.faults host.faults_after later rose) is text_is
 
 pub lines_since : (files : Option Files) (faults : ℕ) (recipe folder : List ℕ) (lines : List RecipeLine) (host : HostWork) (status : ℕ) (text : List ℕ) → host.files ≡ files → faults ≤ host.faults
     → BuildsLines recipe folder lines host status text → BuildsLines recipe folder lines (since files faults host) status text

@@ -19,13 +19,13 @@ use Rattle.media_build.specs.declared.statements.RecipeLine.{RecipeLine}
 use Rattle.media_check.specs.Kept.{contents}
 use Rattle.media_check.specs.Openings.{largest_set, length_on_host, total_of}
 use Rattle.media_check.specs.declared.built.Built.{Built}
-use Rattle.loader_cli.specs.Builds.{AnswersBuild, Builds, BuildsBytes, BuildsLines, IsOfInput, Makes, WritesSet}
-use Rattle.loader_cli.specs.Builds.Builds.{recipe_absent, recipe_read, recipe_too_long, recipe_unread}
+use Rattle.loader_cli.specs.Builds.{AnswersBuild, BuildsFolder, BuildsBytes, BuildsLines, IsOfInput, MakesFolder, WritesSet}
+use Rattle.loader_cli.specs.Builds.BuildsFolder.{recipe_absent, recipe_read, recipe_too_long, recipe_unread}
 use Rattle.loader_cli.specs.Builds.BuildsBytes.{no_recipe, said}
 use Rattle.loader_cli.specs.Builds.BuildsLines.{set_built, set_refused, sources_unread}
-use Rattle.loader_cli.specs.Builds.Makes.{set_made}
+use Rattle.loader_cli.specs.Builds.MakesFolder.{set_made}
 use Rattle.loader_cli.specs.Builds.WritesSet.{unwritten, written}
-use Rattle.loader_cli.specs.HostFiles.{Has, HasTooMany, HostWork}
+use Rattle.loader_cli.specs.HostFiles.{HostHas, HasTooMany, HostWork}
 use Rattle.loader_cli.specs.Texts.{built_line, refused_build, refused_input}
 use Rattle.loader_cli.proofs.Refusals.{else_so, is_large, is_long, is_short, is_small, large_or, long_or, lower, not_lower, one_more, then_so}
 
@@ -64,7 +64,7 @@ same_written folder one two loads host other a b s t answers answers_2 same writ
     (first.0 ∙ sym second.0, first.1 ∙ (ap (built_line loads) (same_count one two same) ∙ sym second.1))
 
 pub one_make : (number : ℕ) (folder : List ℕ) (host other : HostWork) (a b : ℕ) (s t : List ℕ) → ¬ Rose host.faults host.faults_after → ¬ Rose other.faults other.faults_after
-    → Makes number folder host a s → Makes number folder other b t → (a ≡ b) × (s ≡ t)
+    → MakesFolder number folder host a s → MakesFolder number folder other b t → (a ≡ b) × (s ≡ t)
 one_make number folder host other a b s t answers answers_2 (set_made set made small writes) (set_made set_2 made_2 small_2 writes_2) =
     same_written folder set set_2 1 host other a b s t answers answers_2 (made ∙ sym made_2) writes writes_2
 
@@ -232,8 +232,8 @@ module _ (recipe folder : List ℕ) (told : Files) (host other : HostWork) (is :
       (status ∙ sym status_2, text ∙ (ap (λ (f : RecipeFault). refused_input recipe (recipe_fault_text f)) (err_same (recipe_said bytes) fault fault_2 wrong wrong_2) ∙ sym text_2))
 
   -- what the host has under the recipe's name
-  has_is : (work : HostWork) → work.files ≡ Some told → (file : Option (List ℕ)) → Has work.files recipe file → told recipe ≡ file
-  has_is work known file has = subst (λ (f : Option Files). Has f recipe file) known has
+  has_is : (work : HostWork) → work.files ≡ Some told → (file : Option (List ℕ)) → HostHas work.files recipe file → told recipe ≡ file
+  has_is work known file has = subst (λ (f : Option Files). HostHas f recipe file) known has
 
   too_many_is : (work : HostWork) → work.files ≡ Some told → HasTooMany work.files recipe → (bytes : List ℕ) × (told recipe ≡ Some bytes) × (longest_file < length bytes)
   too_many_is work known has = subst (λ (f : Option Files). HasTooMany f recipe) known has
@@ -245,7 +245,7 @@ module _ (recipe folder : List ℕ) (told : Files) (host other : HostWork) (is :
       let more = long.2 in
       absurd (omega (arith, size, short, more))
 
-  pub one_build : (a b : ℕ) (s t : List ℕ) → Builds recipe folder host a s → Builds recipe folder other b t → (a ≡ b) × (s ≡ t)
+  pub one_build : (a b : ℕ) (s t : List ℕ) → BuildsFolder recipe folder host a s → BuildsFolder recipe folder other b t → (a ≡ b) × (s ≡ t)
   one_build a b s t (recipe_read bytes has short builds) (recipe_read bytes_2 has_2 short_2 builds_2) =
       let same : bytes_2 ≡ bytes = some_same (sym (has_is other so (Some bytes_2) has_2) ∙ has_is host is (Some bytes) has) in
       one_of_bytes bytes a b s t builds (subst (λ (l : List ℕ). BuildsBytes recipe folder l other b t) same builds_2)

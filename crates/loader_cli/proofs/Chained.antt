@@ -20,7 +20,7 @@ use Rattle.target_fleet.proofs.FirstBoots.{there_is}
 use Rattle.bank_rollback.specs.Rollbacks.{IsActiveOrFormer}
 use Rattle.run_promises.specs.Promises.{HoldsFirstOrGood}
 use Rattle.loader_cli.specs.Calls.{Call, IsPromised, run_of}
-use Rattle.loader_cli.specs.Chains.{AreInTurn, EachKeeps, IsRestarted, Keeps, KeepsUnit, KeptFleetPromise, KeptPromise, LeavesAtRest, LeavesUnitAtRest, StandsAgain, Taken, Took, TookFleet, fleet_call_of}
+use Rattle.loader_cli.specs.Chains.{AreInTurn, EachKeeps, IsRestarted, CallKeeps, KeepsUnit, KeptFleetPromise, KeptPromise, LeavesAtRest, LeavesUnitAtRest, StandsAgain, Taken, TookCall, TookFleet, fleet_call_of}
 use Rattle.loader_cli.specs.Chains.LeavesUnitAtRest.{disk_stays, unit_stands}
 use Rattle.loader_cli.specs.Chains.Taken.{of_fleet, of_unit}
 use Rattle.loader_cli.specs.FleetReplays.{FleetSeen, HoldsAtRest, IsFleetRun}
@@ -169,13 +169,13 @@ module _ {H O K : Type 0} (files : H → Option Files) (host_faults : H → ℕ)
   Goes place later = (next : K) (left : List K) → slice_get left place ≡ Some next → LosesOnlyWork (state next) → AreInTurn state seen seen_fleet left later → EachKeeps state seen place later
 
   module _ (place : ℕ) (disk : K) (disks : List K) (there : slice_get disks place ≡ Some disk) (rests : LosesOnlyWork (state disk)) (later : List (Taken H O K)) (again : Goes place later) where
-    module _ (took : Took H O K) (same : took.disks ≡ disks) (kept : KeptPromise seen took) (turn : AreInTurn state seen seen_fleet took.disks_after later) where
+    module _ (took : TookCall H O K) (same : took.disks ≡ disks) (kept : KeptPromise seen took) (turn : AreInTurn state seen seen_fleet took.disks_after later) where
       here : disk_named took.call.words ≡ place → LosesOnlyWork (state took.call.disk)
       here named =
           let at : slice_get took.disks (disk_named took.call.words) ≡ Some disk = ap (λ (all : List K). slice_get all (disk_named took.call.words)) same ∙ (ap (slice_get disks) named ∙ there) in
           subst (λ (d : K). LosesOnlyWork (state d)) (one_disk took.disks (disk_named took.call.words) disk took.call.disk at kept.named) rests
 
-      keeps : LosesOnlyWork (state took.call.disk) → Keeps (seen took.call)
+      keeps : LosesOnlyWork (state took.call.disk) → CallKeeps (seen took.call)
       keeps rests = record {
         rests = rests;
         leaves = λ other set start image is holds. kept.promised.leaves.while_running other set start image is holds rests;

@@ -2,7 +2,7 @@
 use Rattle.std.proofs.Common.{◌≡◌, ℕ, List, [], ap, ◌∙◌}
 use Rattle.load_base.specs.Host.{Files}
 use Rattle.media_check.specs.Findings.{findings_of}
-use Rattle.media_check.specs.OpeningLaws.{not_too_long, not_too_large}
+use Rattle.media_check.proofs.OpeningLemmas.{not_too_long, not_too_large}
 use Rattle.media_check.specs.Sets.{SetView}
 use Rattle.loader_cli.specs.Runs.{Run, Says, Checks, Finds, ChecksCleanSet}
 use Rattle.loader_cli.specs.Runs.Checks.{opened, long_file, large_set, set_unread}

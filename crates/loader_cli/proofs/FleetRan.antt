@@ -4,7 +4,7 @@ use Rattle.std.specs.Prelude.{option_map, slice_get}
 use Rattle.std.specs.Option.{ForSome}
 use Rattle.std.proofs.lemmas.List.{length-map}
 use Rattle.std.proofs.lemmas.Option.{slice_get-map, slice_get_within}
-use Rattle.accept_rules.specs.Interlocks.{Follows}
+use Rattle.accept_rules.specs.Interlocks.{FollowsAccepts}
 use Rattle.accept_rules.specs.Permissions.{permits}
 use Rattle.accept_rules.specs.declared.kept.KeptLoad.{KeptLoad}
 use Rattle.bank_store.specs.Fits.{LosesOnlyWork}
@@ -35,7 +35,7 @@ use Rattle.media_check.specs.Sets.{SetView}
 use Rattle.replay_rules.specs.BothEnds.{Setting}
 use Rattle.replay_rules.specs.Due.{AllNoted}
 use Rattle.replay_rules.specs.Promises.{NoneGoesDown, OnlyFinishIsLeft}
-use Rattle.replay_rules.specs.Runs.{Follows as FollowsOwn, scene_at}
+use Rattle.replay_rules.specs.Runs.{TraceFollows as FollowsOwn, scene_at}
 use Rattle.replay_turns.specs.Powers.{RoseBy, disk_stops}
 use Rattle.run_promises.specs.Listing.{StandingFits, WhatIsHeldFits}
 use Rattle.run_promises.specs.Promises.{CanBeTold}
@@ -98,7 +98,7 @@ unknown_then (Some s) began stops new failed is = absurd cc
 
 -- ---- a run on this media set, by a rule that accepts what it may
 
-module _ {R K : Type 0} (state : K → DiskState) (may_say : R → LoadHeader → List KeptLoad → Bool → Type 0) (rule : R) (set : SetView) (follows_rule : Follows may_say rule permits) where
+module _ {R K : Type 0} (state : K → DiskState) (may_say : R → LoadHeader → List KeptLoad → Bool → Type 0) (rule : R) (set : SetView) (follows_rule : FollowsAccepts may_say rule permits) where
   pub stands_on : (start : StandingView) (image : Image) → HoldsConfig image start → IsSet may_say (setting_of set start) rule set image
   stands_on start image holds = record { media = refl; accepts = follows_rule; start = holds }
 

@@ -6,7 +6,7 @@ use Rattle.std.proofs.lemmas.Bool.{leb-true}
 use Rattle.std.proofs.lemmas.Fmt.{decimal_digit}
 use Rattle.std.specs.declared.alloc.Global.{Global}
 use Rattle.load_base.specs.Bytes.{same_bytes}
-use Rattle.load_base.specs.EqualityLaws.{equal_bytes}
+use Rattle.load_base.proofs.EqualityLemmas.{equal_bytes}
 use Rattle.loader_cli.specs.Commands.{CommandView, IsCommand, IsPlain, LooksAfterUnit, IsOfFleet, command_view, disk_named, texts_of, unit_place}
 use Rattle.loader_cli.specs.Commands.IsCommand.{on}
 use Rattle.loader_cli.specs.declared.command.Command.{Command}

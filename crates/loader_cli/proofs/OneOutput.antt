@@ -15,20 +15,20 @@ use Rattle.disk_layout.specs.Offsets.{longest_identity}
 use Rattle.disk_layout.specs.declared.fault.RecoverFault.{RecoverFault}
 use Rattle.disk_layout.specs.declared.identity.Identity.{Identity}
 use Rattle.disk_model.specs.Image.{range}
-use Rattle.field_grammar.specs.ExactLaws.{one_value}
+use Rattle.field_grammar.proofs.ExactLemmas.{one_value}
 use Rattle.exchange_trace.specs.Lines.{Line}
 use Rattle.exchange_trace.specs.Scripts.{script_said}
 use Rattle.media_lists.specs.declared.lists.ListedFile.{ListedFile}
 use Rattle.media_build.specs.NoFindings.{body_view, built_view}
 use Rattle.media_build.specs.RecipeSets.{BodyView, BuiltView}
 use Rattle.media_check.specs.BuiltSets.{body_of, built_media, member_list}
-use Rattle.media_check.specs.Sets.{Media, SetView, set_in}
+use Rattle.media_check.specs.Sets.{MediaBytes, SetView, set_in}
 use Rattle.media_check.specs.declared.built.Built.{Built}
 use Rattle.media_check.specs.declared.built.Placed.{Placed}
 use Rattle.session_rules.specs.Loader.{EndedSession}
 use Rattle.fixed_runs.specs.FixedRuns.{ActiveIsFixed, WholeRunsAreFixed, whole_run}
-use Rattle.loader_cli.specs.FixedOutputs.{Gives, GivesRun, GivesTrial, PutTheSame, PutsOnly, ReplaysSteadily, TriesSteadily, sessions_by, text_by}
-use Rattle.loader_cli.specs.FixedOutputs.Gives.{refuses, runs}
+use Rattle.loader_cli.specs.FixedOutputs.{ReplayGives, GivesRun, GivesTrial, PutTheSame, PutsOnly, ReplaysSteadily, TriesSteadily, sessions_by, text_by}
+use Rattle.loader_cli.specs.FixedOutputs.ReplayGives.{refuses, runs}
 use Rattle.loader_cli.specs.FixedOutputs.GivesRun.{held, unheld}
 use Rattle.loader_cli.specs.FixedOutputs.GivesTrial.{tries, untried}
 use Rattle.loader_cli.specs.Replays.{Replays, StatusOfRun, setting_of}
@@ -84,7 +84,7 @@ module _ (laws : ImageLaws) (telling : Telling) (image : Image) where
       (status ∙ sym status_2, text ∙ (ap no_configuration (laws.one_fault image fault other has has_2) ∙ sym text_2))
 
   module _ (folder name : List ℕ) (files : Files) where
-    one_output : (a b : ℕ) (s t : List ℕ) → Gives telling folder name files image a s → Gives telling folder name files image b t → (a ≡ b) × (s ≡ t)
+    one_output : (a b : ℕ) (s t : List ℕ) → ReplayGives telling folder name files image a s → ReplayGives telling folder name files image b t → (a ≡ b) × (s ≡ t)
     one_output a b s t (runs set script has gives) (runs other script_2 has_2 gives_2) =
         one_run set script a b s t gives
         (subst (λ (x : SetView). GivesRun telling x script image b t) (same_set script_said folder name files set other script script_2 has has_2)
@@ -98,8 +98,8 @@ module _ (laws : ImageLaws) (telling : Telling) (image : Image) where
         let two = inputs_refused folder name files before_2 after_2 b t answers_2 refused_2 in
         (one.0 ∙ sym two.0, same_some (sym one.1 ∙ two.1))
 
-pub one_output_given : ImageLaws → (telling : Telling) (folder name : List ℕ) (files : Files) (image : Image) (a b : ℕ) (s t : List ℕ) → Gives telling folder name files image a s
-    → Gives telling folder name files image b t → (a ≡ b) × (s ≡ t)
+pub one_output_given : ImageLaws → (telling : Telling) (folder name : List ℕ) (files : Files) (image : Image) (a b : ℕ) (s t : List ℕ) → ReplayGives telling folder name files image a s
+    → ReplayGives telling folder name files image b t → (a ≡ b) × (s ≡ t)
 one_output_given laws telling folder name files image a b s t one two = one_output laws telling image folder name files a b s t one two
 
 -- ---- what is put
@@ -107,25 +107,25 @@ one_output_given laws telling folder name files image a b s t one two = one_outp
 module _ (fixed : WholeRunsAreFixed) (active : ActiveIsFixed) (run : Run) (ended : Ended) (telling : Telling) (folder name : List ℕ) (files : Files) (image : Image)
     (is : ReplaysSteadily run ended telling folder name files image) (laws : DiskLaws run.work.disk_after) where
   given : (status : ℕ) (text : List ℕ) → Replays telling folder name (Some files) run.work.host_faults run.work.host_faults_after run.work.disk run.work.disk_after run.work.handed status text
-      → Gives telling folder name files image status text
+      → ReplayGives telling folder name files image status text
   given status text (ran set script has ran_to) =
       runs set script has
       (outcome_gives fixed active telling set script image run.work.disk run.work.disk_after run.work.handed laws (is.promised.leaves.while_running (formats_none telling run.work.words folder name is.asked))
       is.steady.reads is.steady.rests is.steady.disk_answers is.steady.stays_up status text ran_to)
   given status text (unread refused kept handed) = refuses run.work.host_faults run.work.host_faults_after is.steady.answers.host_answers refused
 
-  pub said_of_replay : (status : ℕ) (text : List ℕ) → Says run.work status text → Gives telling folder name files image status text
+  pub said_of_replay : (status : ℕ) (text : List ℕ) → Says run.work status text → ReplayGives telling folder name files image status text
   said_of_replay status text says =
       given status text
       (subst (λ (known : Option Files). Replays telling folder name known run.work.host_faults run.work.host_faults_after run.work.disk run.work.disk_after run.work.handed status text) is.files
       (says_of_run telling run.work folder name status text is.asked says))
 
-  put_by : Ends run ended → PutsOnly run ended (Gives telling folder name files image)
+  put_by : Ends run ended → PutsOnly run ended (ReplayGives telling folder name files image)
   put_by (told text all put) = inr (text, said_of_replay ended.status text all.says, put)
   put_by (sink_failed _ _ _ _ _ rose _) = absurd (is.steady.answers.sink_answers rose)
   put_by (no_memory six _ _) = inl six
 
-  pub puts_only : PutsOnly run ended (Gives telling folder name files image)
+  pub puts_only : PutsOnly run ended (ReplayGives telling folder name files image)
   puts_only = put_by is.promised.ends.ends
 
 -- two runs that put only what holds of one status and one text
@@ -145,7 +145,7 @@ put_the_same Says single one two first second (inr (text, says, put)) (inr (text
 -- ---- `trial`
 
 -- media that tell the same are the same
-same_media : (m n : Media) → ((k : ℕ) → m.loads_list k ≡ n.loads_list k) → ((k : ℕ) → m.files_list k ≡ n.files_list k) → ((k : ℕ) → m.batches_list k ≡ n.batches_list k)
+same_media : (m n : MediaBytes) → ((k : ℕ) → m.loads_list k ≡ n.loads_list k) → ((k : ℕ) → m.files_list k ≡ n.files_list k) → ((k : ℕ) → m.batches_list k ≡ n.batches_list k)
     → ((e : ListedFile) → m.listed e ≡ n.listed e) → m ≡ n
 same_media m n loads files batches listed = λ i. record { loads_list = λ k. loads k i; files_list = λ k. files k i; batches_list = λ k. batches k i; listed = λ e. listed e i }
 

@@ -5,7 +5,7 @@ use Rattle.replay_turns.specs.Turns.{RunsOut}
 use Rattle.loader_cli.specs.Touches.{OnlyLooks}
 use Rattle.load_base.specs.Host.{Files, ReadsFile}
 use Rattle.load_base.specs.declared.host.ReadFault.TheVariants as reading
-use Rattle.loader_cli.specs.HostFiles.{Has, HasTooMany}
+use Rattle.loader_cli.specs.HostFiles.{HostHas, HasTooMany}
 use Rattle.disk_model.specs.Image.{Image}
 use Rattle.disk_model.specs.State.{DiskState, OnlyReads}
 use Rattle.disk_layout.specs.DiskReads.{HasDiskCause, IsOfDisk, RunsOn, RunsOnAfter}
@@ -64,11 +64,11 @@ looks_on {T} old new fault result reads is runs cause = record { only_reads = re
     by (BadManifest offset) is runs running = runs.reads
 
 -- what the host has under a name, from what it answered
-pub has_bytes : (files : Option Files) (name : List ℕ) (bytes : Listed ℕ) → ReadsFile files name (Ok bytes) → Has files name (Some bytes.items)
+pub has_bytes : (files : Option Files) (name : List ℕ) (bytes : Listed ℕ) → ReadsFile files name (Ok bytes) → HostHas files name (Some bytes.items)
 has_bytes None name bytes reads = tt
 has_bytes (Some files) name bytes reads = reads
 
-pub has_none : (files : Option Files) (name : List ℕ) → ReadsFile files name (Err reading.Absent) → Has files name None
+pub has_none : (files : Option Files) (name : List ℕ) → ReadsFile files name (Err reading.Absent) → HostHas files name None
 has_none None name reads = tt
 has_none (Some files) name reads = reads
 

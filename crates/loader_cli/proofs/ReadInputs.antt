@@ -13,8 +13,8 @@ use Rattle.media_lists.specs.Files.{FilesListView, files_list}
 use Rattle.media_lists.specs.Loads.{LoadsListView, loads_list}
 use Rattle.media_lists.specs.declared.fault.ListFault.{ListFault}
 use Rattle.media_lists.specs.ListFaultText.{list_fault_text}
-use Rattle.media_check.specs.HostNames.{Reading, batches_name, files_name, further_reading, host_media, loads_name}
-use Rattle.media_check.specs.Openings.{CanRead, IsFirstLong, IsShort, IsTooLarge, IsTooLong, OpensRest, ReadsList}
+use Rattle.media_check.specs.HostNames.{ReadingOrder, batches_name, files_name, further_reading, host_media, loads_name}
+use Rattle.media_check.specs.Openings.{CanRead, IsFirstLong, IsShortOnHost, IsTooLarge, IsTooLong, OpensRest, ReadsList}
 use Rattle.media_check.specs.Sets.{MemberView, found_as, found_in, found_view, lists_in, set_view, set_with}
 use Rattle.media_check.specs.declared.found.Found.{Found}
 use Rattle.media_check.specs.declared.found.Found.TheVariants.{Missing, Refused, Read}
@@ -40,10 +40,10 @@ missing_none format None is = refl
 missing_none format (Some bytes) is = absurd (found_not_missing (answer format bytes) is)
 
 pub list_read : {L V : Type 0} (view : L → V) (format : Grammar ListFault V) (name : List ℕ) (old new : Option Files) (list : L) → new ≡ old
-    → ForSome old (ReadsList view format name (Ok (Read list))) → ForSome new (λ told. IsShort told name × (found_in format (told name) ≡ Read (view list)))
+    → ForSome old (ReadsList view format name (Ok (Read list))) → ForSome new (λ told. IsShortOnHost told name × (found_in format (told name) ≡ Read (view list)))
 list_read view format name old new list kept reads = λ told is.
     let r = reads told (sym kept ∙ is) in
-    (All-head (IsShort told) name [] r.0, sym r.1)
+    (All-head (IsShortOnHost told) name [] r.0, sym r.1)
 
 pub list_is_absent : {L V : Type 0} (view : L → V) (format : Grammar ListFault V) (name : List ℕ) (files : Option Files)
     → ForSome files (ReadsList view format name (Ok Missing)) → RefusesList format files name (codes "absent")
@@ -51,13 +51,13 @@ list_is_absent view format name files reads = list_absent (λ told is. missing_n
 
 pub list_is_faulty : {L V : Type 0} (view : L → V) (format : Grammar ListFault V) (name : List ℕ) (files : Option Files) (fault : ListFault)
     → ForSome files (ReadsList view format name (Ok (Refused fault))) → RefusesList format files name (list_fault_text fault)
-list_is_faulty view format name files fault reads = list_faulty fault (λ told is. (All-head (IsShort told) name [] (reads told is).0, sym (reads told is).1)) refl
+list_is_faulty view format name files fault reads = list_faulty fault (λ told is. (All-head (IsShortOnHost told) name [] (reads told is).0, sym (reads told is).1)) refl
 
 is_read : {V : Type 0} (found : Found V ListFault) (list : V) → found ≡ Read list → IsRead found
 is_read found list is = subst (λ f. IsRead f) (sym is) tt
 
 pub has_list : {V : Type 0} (format : Grammar ListFault V) (files : Option Files) (name : List ℕ) (list : V)
-    → ForSome files (λ told. IsShort told name × (found_in format (told name) ≡ Read list)) → HasList format files name
+    → ForSome files (λ told. IsShortOnHost told name × (found_in format (told name) ≡ Read list)) → HasList format files name
 has_list format files name list has = λ told is. ((has told is).0, is_read (found_in format (told name)) list (has told is).1)
 
 -- ---- refusals of the lists
@@ -92,33 +92,33 @@ first_is : (folder : List ℕ) (told : Files) (loads : LoadsListView) (listed : 
 unfolding member
 first_is folder told loads listed batches p q r = same_member (Read loads) _ (Read listed) _ batches _ (sym p) (sym q) (sym r)
 
-one_short : (told : Files) (name : List ℕ) → IsShort told name → All (IsShort told) (name ∷ [])
-one_short told name short = All-push (IsShort told) [] name (All-nil (IsShort told)) short
+one_short : (told : Files) (name : List ℕ) → IsShortOnHost told name → All (IsShortOnHost told) (name ∷ [])
+one_short told name short = All-push (IsShortOnHost told) [] name (All-nil (IsShortOnHost told)) short
 
 -- what is read after the list of batches is read as a part of the rest
-readable_rest : (folder : List ℕ) (told : Files) (further : Reading) → IsShort told (batches_name folder 1) → CanRead told further → CanRead told (from_batches folder further)
+readable_rest : (folder : List ℕ) (told : Files) (further : ReadingOrder) → IsShortOnHost told (batches_name folder 1) → CanRead told further → CanRead told (from_batches folder further)
 readable_rest folder told further short can = record {
-  lists = All-append (IsShort told) (batches_name folder 1 ∷ []) further.lists (one_short told (batches_name folder 1) short) can.lists;
+  lists = All-append (IsShortOnHost told) (batches_name folder 1 ∷ []) further.lists (one_short told (batches_name folder 1) short) can.lists;
   listed = can.listed;
   together = can.together;
 }
 
-long_rest : (folder : List ℕ) (told : Files) (further : Reading) (name : List ℕ) → IsShort told (batches_name folder 1) → IsTooLong told further name → IsTooLong told (from_batches folder further) name
+long_rest : (folder : List ℕ) (told : Files) (further : ReadingOrder) (name : List ℕ) → IsShortOnHost told (batches_name folder 1) → IsTooLong told further name → IsTooLong told (from_batches folder further) name
 long_rest folder told further name short long =
     elim long [
       | inl list ↦ inl (record {
         before = batches_name folder 1 ∷ list.before;
         after = list.after;
         stands = ap (λ (l : List (List ℕ)). batches_name folder 1 ∷ l) list.stands;
-        others = All-append (IsShort told) (batches_name folder 1 ∷ []) list.before (one_short told (batches_name folder 1) short) list.others;
+        others = All-append (IsShortOnHost told) (batches_name folder 1 ∷ []) list.before (one_short told (batches_name folder 1) short) list.others;
         long = list.long;
       })
-      | inr listed ↦ inr (All-append (IsShort told) (batches_name folder 1 ∷ []) further.lists (one_short told (batches_name folder 1) short) listed.0, listed.1)
+      | inr listed ↦ inr (All-append (IsShortOnHost told) (batches_name folder 1 ∷ []) further.lists (one_short told (batches_name folder 1) short) listed.0, listed.1)
     ]
 
-large_rest : (folder : List ℕ) (told : Files) (further : Reading) → IsShort told (batches_name folder 1) → IsTooLarge told further → IsTooLarge told (from_batches folder further)
+large_rest : (folder : List ℕ) (told : Files) (further : ReadingOrder) → IsShortOnHost told (batches_name folder 1) → IsTooLarge told further → IsTooLarge told (from_batches folder further)
 large_rest folder told further short large =
-    (All-append (IsShort told) (batches_name folder 1 ∷ []) further.lists (one_short told (batches_name folder 1) short) large.0, large.1)
+    (All-append (IsShortOnHost told) (batches_name folder 1 ∷ []) further.lists (one_short told (batches_name folder 1) short) large.0, large.1)
 
 pub set_opened : (folder : List ℕ) (files : Option Files) (loads : LoadsListView) (listed : FilesListView) (batches : Found BatchesListView BatchesFault) (opened : MediaSet) → HasLoads folder loads files
     → HasListed folder listed files → HasBatches folder batches files → ForSome files (OpensRest folder (record { loads = Read loads; files = Read listed; batches = batches }) (Ok opened))
@@ -166,7 +166,7 @@ long_batches folder files file long = λ told is.
 
 -- what was found of the list of batches is found there
 pub batches_found : (view : BatchesList → BatchesListView) (name : List ℕ) (old new : Option Files) (found : Found BatchesList BatchesFault) → new ≡ old
-    → ForSome old (ReadsList view batches_list name (Ok found)) → ForSome new (λ told. IsShort told name × (found_in batches_list (told name) ≡ found_view view found))
+    → ForSome old (ReadsList view batches_list name (Ok found)) → ForSome new (λ told. IsShortOnHost told name × (found_in batches_list (told name) ≡ found_view view found))
 batches_found view name old new found kept reads = λ told is.
     let r = reads told (sym kept ∙ is) in
-    (All-head (IsShort told) name [] r.0, sym r.1)
+    (All-head (IsShortOnHost told) name [] r.0, sym r.1)

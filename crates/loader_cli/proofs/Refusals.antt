@@ -15,9 +15,9 @@ use Rattle.media_lists.specs.Files.{files_list}
 use Rattle.media_lists.specs.ListFaultText.{list_fault_text}
 use Rattle.media_lists.specs.Loads.{loads_list}
 use Rattle.media_lists.specs.declared.fault.ListFault.{ListFault}
-use Rattle.media_check.specs.HostNames.{Reading, files_name, loads_name}
+use Rattle.media_check.specs.HostNames.{ReadingOrder, files_name, loads_name}
 use Rattle.media_check.specs.Kept.{contents}
-use Rattle.media_check.specs.Openings.{CanRead, IsFirstLong, IsShort, IsTooLarge, IsTooLong, largest_set, length_on_host, total_of}
+use Rattle.media_check.specs.Openings.{CanRead, IsFirstLong, IsShortOnHost, IsTooLarge, IsTooLong, largest_set, length_on_host, total_of}
 use Rattle.media_check.specs.Sets.{SetView, found_in}
 use Rattle.media_check.specs.declared.found.Found.{Found}
 use Rattle.media_check.specs.declared.found.Found.TheVariants.{Missing, Read, Refused}
@@ -75,7 +75,7 @@ abbrev or_later : Option (List ℕ) → Option (List ℕ) → Option (List ℕ)
 or_later (Some text) later = Some text
 or_later None later = later
 
-abbrev pub rest_refusal : (folder : List ℕ) → Files → Reading → Option (List ℕ)
+abbrev pub rest_refusal : (folder : List ℕ) → Files → ReadingOrder → Option (List ℕ)
 rest_refusal folder told reading = or_later (names_refusal told reading.lists) (listed_refusal folder told 0 reading.files)
 
 abbrev said_refusal : (name : List ℕ) → Result (List Line) ScriptFault → Option (List ℕ)
@@ -136,17 +136,17 @@ module _ {V : Type 0} (format : Grammar ListFault V) (told : Files) (name : List
 -- ---- the rest of the set
 
 module _ (told : Files) where
-  names_pass : (names : List (List ℕ)) → All (IsShort told) names → names_refusal told names ≡ None
+  names_pass : (names : List (List ℕ)) → All (IsShortOnHost told) names → names_refusal told names ≡ None
   names_pass [] short = refl
   names_pass (name ∷ names) short =
-      is_short name (length_on_host told name) (names_refusal told names) (All-head (IsShort told) name names short) ∙ names_pass names (All-tail (IsShort told) name names short)
+      is_short name (length_on_host told name) (names_refusal told names) (All-head (IsShortOnHost told) name names short) ∙ names_pass names (All-tail (IsShortOnHost told) name names short)
 
-  name_is_long : (before after : List (List ℕ)) (name : List ℕ) → All (IsShort told) before → longest_file < length_on_host told name
+  name_is_long : (before after : List (List ℕ)) (name : List ℕ) → All (IsShortOnHost told) before → longest_file < length_on_host told name
       → names_refusal told (before ++ name ∷ after) ≡ Some (refused_input name (codes "toolong"))
   name_is_long [] after name short long = is_long name (length_on_host told name) (names_refusal told after) long
   name_is_long (x ∷ before) after name short long =
-      is_short x (length_on_host told x) (names_refusal told (before ++ name ∷ after)) (All-head (IsShort told) x before short)
-      ∙ name_is_long before after name (All-tail (IsShort told) x before short) long
+      is_short x (length_on_host told x) (names_refusal told (before ++ name ∷ after)) (All-head (IsShortOnHost told) x before short)
+      ∙ name_is_long before after name (All-tail (IsShortOnHost told) x before short) long
 
   first_is_long : (names : List (List ℕ)) (name : List ℕ) → IsFirstLong told names name → names_refusal told names ≡ Some (refused_input name (codes "toolong"))
   first_is_long names name first = ap (names_refusal told) first.stands ∙ name_is_long first.before first.after name first.others first.long
@@ -158,39 +158,39 @@ module _ (told : Files) where
       omega (arith, whole, one)
 
   module _ (folder : List ℕ) where
-    goes_by : (total : ℕ) (name : List ℕ) (names : List (List ℕ)) → IsShort told name → total + length_on_host told name ≤ largest_set
+    goes_by : (total : ℕ) (name : List ℕ) (names : List (List ℕ)) → IsShortOnHost told name → total + length_on_host told name ≤ largest_set
         → listed_refusal folder told total (name ∷ names) ≡ listed_refusal folder told (total + length_on_host told name) names
     goes_by total name names short small =
         let later = listed_refusal folder told (total + length_on_host told name) names in
         is_short name (length_on_host told name) (large_or folder (total + length_on_host told name) later) short ∙ is_small folder (total + length_on_host told name) later small
 
-    listed_pass : (total : ℕ) (names : List (List ℕ)) → All (IsShort told) names → total + total_of told names ≤ largest_set → listed_refusal folder told total names ≡ None
+    listed_pass : (total : ℕ) (names : List (List ℕ)) → All (IsShortOnHost told) names → total + total_of told names ≤ largest_set → listed_refusal folder told total names ≡ None
     listed_pass total [] short small = refl
     listed_pass total (name ∷ names) short small =
         let more = one_more name names in
-        goes_by total name names (All-head (IsShort told) name names short) (omega (arith, small, more))
-        ∙ listed_pass (total + length_on_host told name) names (All-tail (IsShort told) name names short) (omega (arith, small, more))
+        goes_by total name names (All-head (IsShortOnHost told) name names short) (omega (arith, small, more))
+        ∙ listed_pass (total + length_on_host told name) names (All-tail (IsShortOnHost told) name names short) (omega (arith, small, more))
 
-    listed_is_long : (total : ℕ) (before after : List (List ℕ)) (name : List ℕ) → All (IsShort told) before → total + total_of told before ≤ largest_set → longest_file < length_on_host told name
+    listed_is_long : (total : ℕ) (before after : List (List ℕ)) (name : List ℕ) → All (IsShortOnHost told) before → total + total_of told before ≤ largest_set → longest_file < length_on_host told name
         → listed_refusal folder told total (before ++ name ∷ after) ≡ Some (refused_input name (codes "toolong"))
     listed_is_long total [] after name short small long =
         is_long name (length_on_host told name) (large_or folder (total + length_on_host told name) (listed_refusal folder told (total + length_on_host told name) after)) long
     listed_is_long total (x ∷ before) after name short small long =
         let more = one_more x before in
-        goes_by total x (before ++ name ∷ after) (All-head (IsShort told) x before short) (omega (arith, small, more))
-        ∙ listed_is_long (total + length_on_host told x) before after name (All-tail (IsShort told) x before short) (omega (arith, small, more)) long
+        goes_by total x (before ++ name ∷ after) (All-head (IsShortOnHost told) x before short) (omega (arith, small, more))
+        ∙ listed_is_long (total + length_on_host told x) before after name (All-tail (IsShortOnHost told) x before short) (omega (arith, small, more)) long
 
-    listed_is_large : (total : ℕ) (before after : List (List ℕ)) (name : List ℕ) → All (IsShort told) before → IsShort told name → total + total_of told before ≤ largest_set
+    listed_is_large : (total : ℕ) (before after : List (List ℕ)) (name : List ℕ) → All (IsShortOnHost told) before → IsShortOnHost told name → total + total_of told before ≤ largest_set
         → largest_set < (total + total_of told before) + length_on_host told name → listed_refusal folder told total (before ++ name ∷ after) ≡ Some (refused_input folder (codes "toolarge"))
     listed_is_large total [] after name short this small large =
         let later = listed_refusal folder told (total + length_on_host told name) after in
         is_short name (length_on_host told name) (large_or folder (total + length_on_host told name) later) this ∙ is_large folder (total + length_on_host told name) later (omega (arith, large))
     listed_is_large total (x ∷ before) after name short this small large =
         let more = one_more x before in
-        goes_by total x (before ++ name ∷ after) (All-head (IsShort told) x before short) (omega (arith, small, more))
-        ∙ listed_is_large (total + length_on_host told x) before after name (All-tail (IsShort told) x before short) this (omega (arith, small, more)) (omega (arith, large, more))
+        goes_by total x (before ++ name ∷ after) (All-head (IsShortOnHost told) x before short) (omega (arith, small, more))
+        ∙ listed_is_large (total + length_on_host told x) before after name (All-tail (IsShortOnHost told) x before short) this (omega (arith, small, more)) (omega (arith, large, more))
 
-    module _ (reading : Reading) where
+    module _ (reading : ReadingOrder) where
       pub rest_passes : CanRead told reading → rest_refusal folder told reading ≡ None
       rest_passes can =
           ap (λ (o : Option (List ℕ)). or_later o (listed_refusal folder told 0 reading.files)) (names_pass reading.lists can.lists)

@@ -15,8 +15,8 @@ use Rattle.media_lists.specs.Files.{files_list}
 use Rattle.media_lists.specs.Loads.{loads_list}
 use Rattle.media_lists.specs.declared.fault.ListFault.{ListFault}
 use Rattle.media_check.specs.HostNames.{files_name, loads_name}
-use Rattle.media_check.specs.OpeningLaws.{not_too_large, not_too_long}
-use Rattle.media_check.specs.Openings.{IsFirstLong, IsShort}
+use Rattle.media_check.proofs.OpeningLemmas.{not_too_large, not_too_long}
+use Rattle.media_check.specs.Openings.{IsFirstLong, IsShortOnHost}
 use Rattle.media_check.specs.Sets.{SetView, found_in}
 use Rattle.media_check.specs.declared.found.Found.{Found}
 use Rattle.upload_replay.specs.Endings.{HeldNone, HoldsNone, HoldsSome}
@@ -33,11 +33,11 @@ use Rattle.loader_cli.proofs.Asked.{says_of_run}
 
 -- ---- no input is refused
 
-not_longer : (told : Files) (name file : List ℕ) → IsShort told name → IsFirstLong told (name ∷ []) file → ⊥
+not_longer : (told : Files) (name file : List ℕ) → IsShortOnHost told name → IsFirstLong told (name ∷ []) file → ⊥
 not_longer told name file short long = by long.before long.stands
   where
     by : (before : List (List ℕ)) → name ∷ [] ≡ before ++ file ∷ long.after → ⊥
-    by [] stands = let same : name ≡ file = cc in let this : IsShort told file = subst (λ (f : List ℕ). IsShort told f) same short in absurd (omega (arith, this, long.long))
+    by [] stands = let same : name ≡ file = cc in let this : IsShortOnHost told file = subst (λ (f : List ℕ). IsShortOnHost told f) same short in absurd (omega (arith, this, long.long))
     by (x ∷ []) stands = absurd cc
     by (x ∷ y ∷ others) stands = absurd cc
 

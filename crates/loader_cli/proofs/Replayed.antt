@@ -16,11 +16,11 @@ use Rattle.link_net.specs.Links.{LinkState}
 use Rattle.loader_machine.specs.Machine.{media_of}
 use Rattle.run_promises.specs.Listing.{StandingFits}
 use Rattle.run_promises.specs.Promises.{CanBeTold}
-use Rattle.upload_replay.specs.Drives.{IsRun}
+use Rattle.upload_replay.specs.Drives.{IsDrivenRun}
 use Rattle.upload_replay.specs.Moments.{HoldsAllAlong}
 use Rattle.bank_store.specs.Fits.{LosesOnlyWork}
 use Rattle.replay_rules.specs.Due.{AllNoted}
-use Rattle.replay_rules.specs.Runs.{Follows}
+use Rattle.replay_rules.specs.Runs.{TraceFollows}
 use Rattle.session_completion.specs.FinishedRuns.{FinishLeavesPower}
 use Rattle.replay_turns.specs.Orders.{IsInOrder}
 use Rattle.upload_replay.specs.Endings.{CountsStops, FailedIfUnknown, HoldsSome, HoldsStanding, IsNoConfig}
@@ -55,7 +55,7 @@ counts_power steps standing old new before after none stops is arms =
 
 -- a run of a link that followed a script
 pub script_run : (set : SetView) (script : List Line) (start : StandingView) (run : RunSeen) (link : LinkState) → CanBeTold (media_of set) → StandingFits start → IsInOrder run.trace
-    → IsRun (setting_of set start) (link_of script) link (steps_of run.trace) run.sessions run.standing → IsScriptRun set script start run
+    → IsDrivenRun (setting_of set start) (link_of script) link (steps_of run.trace) run.sessions run.standing → IsScriptRun set script start run
 script_run set script start run link can fits ordered is = record {
   ended = link;
   is = is;
@@ -80,7 +80,7 @@ held_run set script start old new run power can fits is stops (clocks, moments) 
   completes = λ left answers last stands.
       let steps = steps_of run.trace in
       let follows = (is.is.follows script (record { posted = refl; given = refl; plan = refl; follows = tt })).follows in
-      let leaves = power (setting_of set start) script left.before left.more left.left (subst (λ (list : List Step). Follows (setting_of set start) script list) left.split follows) in
+      let leaves = power (setting_of set start) script left.before left.more left.left (subst (λ (list : List Step). TraceFollows (setting_of set start) script list) left.split follows) in
       let up = none_down_since (setting_of set start) left.more left.before leaves (subst (λ (list : List Step). AllNoted (setting_of set start) list) left.split is.is.trace.noted)
       (none_since left.more left.before steps old.faults new.faults left.split answers stops) in
       is.is.keeps.completes accepts_permitted can fits script follows left up last stands (sym (moments.active last stands));

@@ -13,7 +13,7 @@ use Rattle.replay_turns.specs.Turns.{RunsOut}
 use Rattle.recovery.specs.Formers.{HasNoFormer, HoldsFormer}
 use Rattle.recovery.specs.declared.former_fault.FormerFault.{FormerFault}
 use Rattle.recovery.specs.declared.former_fault.FormerFault.TheVariants as formers
-use Rattle.bank_rollback.specs.Faults.{HasOwnName}
+use Rattle.bank_rollback.specs.Faults.{RollbackHasOwnName}
 use Rattle.bank_rollback.specs.Rollbacks.{BringsBack, IsSpentFor, LeavesAfter, RanOut, RefusesRollback, RollsBack}
 use Rattle.bank_rollback.specs.Rollbacks.RanOut.{after_it, before_writing, of_the_disk}
 use Rattle.bank_rollback.specs.declared.fault.RollbackFault.{RollbackFault}
@@ -48,7 +48,7 @@ ran_after old new brought (Err fault) rolled = inl rolled.running
 -- ---- where it is refused
 
 module _ (old new : DiskState) where
-  pub refused_says : (fault : RollbackFault) → ForSome old.reads (λ image. RefusesRollback image fault) → HasOwnName fault → LeavesAfter old new fault
+  pub refused_says : (fault : RollbackFault) → ForSome old.reads (λ image. RefusesRollback image fault) → RollbackHasOwnName fault → LeavesAfter old new fault
       → (fault ≡ DiskFailed → Rose old.faults new.faults × (new.stopped ≡ true)) → IfOk (refusal_of fault) (λ answer. RollsBackAs old new (status_of answer) (text_of answer))
   refused_says (Former formers.SlotClosed) refuses own left failed = none_former (Former formers.SlotClosed) refuses tt left refl refl
   refused_says (Former (formers.SlotBad offset)) refuses own left failed = none_former (Former (formers.SlotBad offset)) refuses tt left refl refl

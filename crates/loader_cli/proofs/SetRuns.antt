@@ -6,27 +6,27 @@ use Rattle.std.proofs.lemmas.List.{length-map}
 use Rattle.load_base.specs.Counts.{Rose}
 use Rattle.load_base.specs.Host.{Files}
 use Rattle.media_check.specs.declared.built.Built.{Built}
-use Rattle.media_build.specs.Building.{AnswersSizes, Builds as BuildsOf, CanTake, HaveSizes, IsFirstRefused, IsSizeFault, IsSmall, fixed_length, source_names, sources_in}
+use Rattle.media_build.specs.Building.{AnswersSizes, Builds as BuildsOf, CanTake, HaveSizes, IsFirstRefused, IsSizeFault, IsSmallSet, fixed_length, source_names, sources_in}
 use Rattle.media_build.specs.GeneratedSet.{generated_lines, generated_sources}
-use Rattle.media_build.specs.HostWrites.{WritesFiles, WritesTold, written_files}
+use Rattle.media_build.specs.HostWrites.{WritesAllFiles, WritesTold, written_files}
 use Rattle.media_build.specs.NoFindings.{body_view, built_view}
 use Rattle.media_build.specs.RecipeSets.{BuiltView, Sources, loads_of, load_bodies, recipe_bodies, recipe_set}
 use Rattle.media_build.specs.Recipes.{recipe_said}
-use Rattle.media_build.specs.WrittenFolders.{HasNoOtherBatches, HoldsSet}
+use Rattle.media_build.specs.WrittenFolders.{HoldsWritten}
 use Rattle.media_build.specs.declared.building_fault.BuildFault.{BuildFault}
 use Rattle.media_build.specs.declared.building_fault.BuildFault.TheVariants.{Absent, TooLong, TooLarge, HeaderTooLong, ListTooLong, Failed, Memory}
 use Rattle.media_build.specs.declared.fault.RecipeFault.{RecipeFault}
 use Rattle.media_build.specs.declared.fault.RecipeFault.TheVariants.{Limit}
 use Rattle.media_build.specs.declared.statements.RecipeLine.{RecipeLine}
-use Rattle.loader_cli.specs.Builds.{Builds, BuildsBytes, BuildsLines, IsOfInput, Makes, WritesSet}
+use Rattle.loader_cli.specs.Builds.{BuildsFolder, BuildsBytes, BuildsLines, IsOfInput, MakesFolder, WritesSet}
 use Rattle.loader_cli.specs.Builds.WritesSet.{written, unwritten}
 use Rattle.loader_cli.specs.Builds.BuildsLines.{set_built, set_refused, sources_unread}
 use Rattle.loader_cli.specs.Builds.BuildsBytes.{said, no_recipe}
-use Rattle.loader_cli.specs.Builds.Builds.{recipe_read, recipe_absent, recipe_too_long, recipe_unread}
-use Rattle.loader_cli.specs.Builds.Makes.{set_made}
+use Rattle.loader_cli.specs.Builds.BuildsFolder.{recipe_read, recipe_absent, recipe_too_long, recipe_unread}
+use Rattle.loader_cli.specs.Builds.MakesFolder.{set_made}
 use Rattle.loader_cli.specs.Commands.{IsCommand}
 use Rattle.loader_cli.specs.Commands.CommandView.{build, make}
-use Rattle.loader_cli.specs.HostFiles.{Has, HasTooMany, HostWork}
+use Rattle.loader_cli.specs.HostFiles.{HostHas, HasTooMany, HostWork}
 use Rattle.loader_cli.specs.Runs.{Run, Says, host_work, BuildsRightSet, MakesSet, WritesInto, LeavesFolder, LeavesSet}
 use Rattle.loader_cli.specs.Runs.WritesInto.{of_recipe, of_number}
 use Rattle.loader_cli.specs.Runs.LeavesSet.{has_built, has_made}
@@ -38,9 +38,9 @@ pub record BuildingLaws : Type 0 where
   pub sizes : (lines : List RecipeLine) (fault : BuildFault) → HaveSizes lines → IsSizeFault lines fault → fault ≡ Memory
   pub sources : (files : Files) (others : ℕ) (names : List (List ℕ)) (fault : BuildFault) → CanTake files others names → ¬ IsFirstRefused files others names fault
   pub built : (folder text : List ℕ) (lines : List RecipeLine) (built : Built) (files old new : Files) → recipe_said text ≡ Ok lines → AnswersSizes lines (Ok built)
-      → BuildsOf lines (Ok built) files → IsSmall built → HasNoOtherBatches folder old lines → WritesFiles (written_files folder built) old new (Ok tt) → HoldsSet folder new (sources_in files) lines
-  pub made : (folder : List ℕ) (number : ℕ) (built : Built) (old new : Files) → built_view built ≡ recipe_set (generated_sources number) generated_lines → IsSmall built
-      → HasNoOtherBatches folder old generated_lines → WritesFiles (written_files folder built) old new (Ok tt) → HoldsSet folder new (generated_sources number) generated_lines
+      → BuildsOf lines (Ok built) files → IsSmallSet built → WritesAllFiles (written_files folder built) old new (Ok tt) → HoldsWritten folder old new (sources_in files) lines
+  pub made : (folder : List ℕ) (number : ℕ) (built : Built) (old new : Files) → built_view built ≡ recipe_set (generated_sources number) generated_lines → IsSmallSet built
+      → WritesAllFiles (written_files folder built) old new (Ok tt) → HoldsWritten folder old new (generated_sources number) generated_lines
 
 -- ---- what the host has
 
@@ -59,7 +59,7 @@ not_both r a fault one two = let same = sym one ∙ two in absurd cc
 pub apart : (status n : ℕ) → status ≡ 0 → status ≡ suc n → ⊥
 apart status n zero is = let same = sym zero ∙ is in absurd cc
 
-pub has_told : (files : Option Files) (told : Files) (name : List ℕ) (file : Option (List ℕ)) → files ≡ Some told → Has files name file → told name ≡ file
+pub has_told : (files : Option Files) (told : Files) (name : List ℕ) (file : Option (List ℕ)) → files ≡ Some told → HostHas files name file → told name ≡ file
 has_told None told name file is has = absurd cc
 has_told (Some other) told name file is has = let same : other ≡ told = some_of is in subst (λ (f : Files). f name ≡ file) same has
 
@@ -128,7 +128,7 @@ bytes_right laws told recipe folder bytes lines host status text files says size
 
 build_right : (laws : BuildingLaws) (told : Files) (recipe folder contents : List ℕ) (lines : List RecipeLine) (host : HostWork) (status : ℕ) (text : List ℕ) → host.files ≡ Some told
     → told recipe ≡ Some contents → recipe_said contents ≡ Ok lines → HaveSizes lines → CanTake told (fixed_length lines) (source_names lines)
-    → ¬ Rose host.faults host.faults_after → Builds recipe folder host status text
+    → ¬ Rose host.faults host.faults_after → BuildsFolder recipe folder host status text
     → IsDone status text (built_line (length (loads_of lines)) (length (recipe_bodies (sources_in told) lines)))
 build_right laws told recipe folder contents lines host status text files there says sizes sources answers (recipe_read bytes has short builds) =
     let same : bytes ≡ contents = some_of (sym (has_told host.files told recipe (Some bytes) files has) ∙ there) in
@@ -149,7 +149,7 @@ two_files : (set : Built) (number : ℕ) → built_view set ≡ recipe_set (gene
 unfolding recipe_bodies load_bodies
 two_files set number same = count_files set (generated_sources number) generated_lines same
 
-make_right : (number : ℕ) (folder : List ℕ) (host : HostWork) (status : ℕ) (text : List ℕ) → ¬ Rose host.faults host.faults_after → Makes number folder host status text
+make_right : (number : ℕ) (folder : List ℕ) (host : HostWork) (status : ℕ) (text : List ℕ) → ¬ Rose host.faults host.faults_after → MakesFolder number folder host status text
     → IsDone status text (built_line 1 2)
 make_right number folder host status text answers (set_made set is small writes) = writes_right folder set 1 2 host status text (two_files set number is) answers writes
 
@@ -161,16 +161,16 @@ make_said run number folder status text premise says =
 
 -- a host that tells its files has the files of the set, and goes on telling them
 leaves : (folder : List ℕ) (set : Built) (old new : Option Files) (told : Files) (sources : Sources) (lines : List RecipeLine) → old ≡ Some told
-    → ((after : Files) → HasNoOtherBatches folder told lines → WritesFiles (written_files folder set) told after (Ok tt) → HoldsSet folder after sources lines) → WritesTold (written_files folder set) old new (Ok tt)
+    → ((after : Files) → WritesAllFiles (written_files folder set) told after (Ok tt) → HoldsWritten folder told after sources lines) → WritesTold (written_files folder set) old new (Ok tt)
     → LeavesFolder folder told new sources lines
 leaves folder set None new told sources lines is holds wrote = absurd cc
 leaves folder set (Some was) new told sources lines is holds wrote =
     let same : was ≡ told = some_of is in
-    let here = subst (λ (f : Files). WritesFiles (written_files folder set) f wrote.0 (Ok tt)) same wrote.2 in
-    record { files = wrote.0; told = wrote.1; holds = λ none. holds wrote.0 none here }
+    let here = subst (λ (f : Files). WritesAllFiles (written_files folder set) f wrote.0 (Ok tt)) same wrote.2 in
+    record { files = wrote.0; told = wrote.1; holds = holds wrote.0 here }
 
 set_leaves : (folder : List ℕ) (set : Built) (loads : ℕ) (host : HostWork) (status : ℕ) (text : List ℕ) (told : Files) (sources : Sources) (lines : List RecipeLine) → host.files ≡ Some told → status ≡ 0
-    → ((after : Files) → HasNoOtherBatches folder told lines → WritesFiles (written_files folder set) told after (Ok tt) → HoldsSet folder after sources lines) → WritesSet folder set loads host status text
+    → ((after : Files) → WritesAllFiles (written_files folder set) told after (Ok tt) → HoldsWritten folder told after sources lines) → WritesSet folder set loads host status text
     → LeavesFolder folder told host.files_after sources lines
 set_leaves folder set loads host status text told sources lines files zero holds (written wrote _ _) = leaves folder set host.files host.files_after told sources lines files holds wrote.told
 set_leaves folder set loads host status text told sources lines files zero holds (unwritten _ _ is _) = absurd (apart status 3 zero is)
@@ -179,7 +179,7 @@ lines_leave : (laws : BuildingLaws) (recipe folder bytes : List ℕ) (lines : Li
     → recipe_said bytes ≡ Ok lines → BuildsLines recipe folder lines host status text → LeavesFolder folder told host.files_after (sources_in told) lines
 lines_leave laws recipe folder bytes lines host status text told files zero says (set_built set is writes) =
     set_leaves folder set (length (loads_of lines)) host status text told (sources_in told) lines files zero
-    (λ after none wrote. laws.built folder bytes lines set told told after says is.sizes (is.builds told files) is.small none wrote) writes
+    (λ after wrote. laws.built folder bytes lines set told told after says is.sizes (is.builds told files) is.small wrote) writes
 lines_leave laws recipe folder bytes lines host status text told files zero says (set_refused _ _ _ _ is _) = absurd (apart status 2 zero is)
 lines_leave laws recipe folder bytes lines host status text told files zero says (sources_unread _ _ is _) = absurd (apart status 3 zero is)
 
@@ -190,7 +190,7 @@ bytes_leave laws words recipe folder bytes host status text told files zero aske
 bytes_leave laws words recipe folder bytes host status text told files zero asked there (no_recipe _ _ _ is _) = absurd (apart status 2 zero is)
 
 build_leaves : (laws : BuildingLaws) (words : List (List ℕ)) (recipe folder : List ℕ) (host : HostWork) (status : ℕ) (text : List ℕ) (told : Files) → host.files ≡ Some told → status ≡ 0
-    → IsCommand words (build recipe folder) → Builds recipe folder host status text → LeavesSet words told folder host.files_after
+    → IsCommand words (build recipe folder) → BuildsFolder recipe folder host status text → LeavesSet words told folder host.files_after
 build_leaves laws words recipe folder host status text told files zero asked (recipe_read bytes has _ builds) =
     bytes_leave laws words recipe folder bytes host status text told files zero asked (has_told host.files told recipe (Some bytes) files has) builds
 build_leaves laws words recipe folder host status text told files zero asked (recipe_absent _ _ is _) = absurd (apart status 2 zero is)
@@ -198,10 +198,10 @@ build_leaves laws words recipe folder host status text told files zero asked (re
 build_leaves laws words recipe folder host status text told files zero asked (recipe_unread _ _ is _) = absurd (apart status 3 zero is)
 
 make_leaves : (laws : BuildingLaws) (words : List (List ℕ)) (number : ℕ) (folder : List ℕ) (host : HostWork) (status : ℕ) (text : List ℕ) (told : Files) → host.files ≡ Some told → status ≡ 0
-    → IsCommand words (make number folder) → Makes number folder host status text → LeavesSet words told folder host.files_after
+    → IsCommand words (make number folder) → MakesFolder number folder host status text → LeavesSet words told folder host.files_after
 make_leaves laws words number folder host status text told files zero asked (set_made set is small writes) =
     has_made number asked
-    (set_leaves folder set 1 host status text told (generated_sources number) generated_lines files zero (λ after none wrote. laws.made folder number set told after is small none wrote) writes)
+    (set_leaves folder set 1 host status text told (generated_sources number) generated_lines files zero (λ after wrote. laws.made folder number set told after is small wrote) writes)
 
 pub run_leaves : (laws : BuildingLaws) (run : Run) (folder : List ℕ) (told : Files) (status : ℕ) (text : List ℕ) → WritesInto run.work.words folder → run.work.files ≡ Some told → status ≡ 0
     → Says run.work status text → LeavesSet run.work.words told folder run.work.files_after

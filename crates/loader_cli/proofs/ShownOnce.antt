@@ -9,7 +9,7 @@ use Rattle.batch_lists.specs.FaultTexts.{batch_fault_text, batches_fault_text}
 use Rattle.batch_lists.specs.declared.fault.BatchFault.TheVariants as batches
 use Rattle.batch_lists.specs.declared.fault.BatchesFault.TheVariants as batches_lists
 use Rattle.load_base.specs.Bytes.{same_bytes}
-use Rattle.field_grammar.specs.ExactLaws.{not_both, one_fault, one_value, spelled_at_start}
+use Rattle.field_grammar.proofs.ExactLemmas.{not_both, one_fault, one_value, spelled_at_start}
 use Rattle.field_grammar.specs.Grammar.{Fault, Grammar, Spelled}
 use Rattle.load_header.specs.Header.{header}
 use Rattle.load_header.specs.HeaderFaultText.{header_fault_text}

@@ -16,14 +16,14 @@ use Rattle.exchange_trace.specs.Posts.{first_port_after, posted_in}
 use Rattle.exchange_trace.specs.Steps.{Boot_refused, Came_up, Note, Step, Went_down, steps_of}
 use Rattle.media_check.specs.Sets.{SetView}
 use Rattle.session_rules.specs.Loader.{EndedSession}
-use Rattle.replay_rules.specs.BothEnds.{Setting, TargetState, target_at}
+use Rattle.replay_rules.specs.BothEnds.{Setting, TargetStanding, target_at}
 use Rattle.replay_rules.specs.Due.{AllNoted, IsBooted, MayBeNoted, MayGoDown, is_up}
 use Rattle.replay_rules.specs.Histories.{active_at}
 use Rattle.fixed_runs.specs.FixedRuns.{ActiveIsFixed, BootsTellActive, IsNoFailure, NeverFails, TellsActive, WholeRunsAreFixed, whole_run}
 use Rattle.upload_replay.specs.Endings.{HoldsNone, HoldsSome}
 use Rattle.replay_turns.specs.StepsOnDisks.{BootIsTold}
 use Rattle.upload_replay.specs.Moments.{AllBootsAreTold}
-use Rattle.upload_replay.specs.OrderLaws.{posts_by_steps, wire_by_steps}
+use Rattle.upload_replay.proofs.OrderLemmas.{posts_by_steps, wire_by_steps}
 use Rattle.replay_turns.specs.Powers.{RoseBy, disk_stops, stops_in, stops_noted}
 use Rattle.upload_replay.specs.Texts.{datagrams_line, is_post, sessions_from}
 use Rattle.loader_cli.specs.FixedOutputs.{GivesRun, IsNoLoss, NeverGoesDown, sessions_by, text_by}
@@ -45,7 +45,7 @@ may_fail : (up : Bool) (notes : List Note) → MayGoDown up notes → AllByRecur
 may_fail true notes may none = elim may [ inl e ↦ none_fail notes e | inr e ↦ absurd (lost notes e none) ]
 may_fail false notes may none = none_fail notes may
 
-boot_fails : (port : ℕ) (state : TargetState) (notes : List Note) → IsBooted port notes → BootIsTold state notes → stops_noted notes ≡ 0 → AllByRecursion IsNoFailure notes
+boot_fails : (port : ℕ) (state : TargetStanding) (notes : List Note) → IsBooted port notes → BootIsTold state notes → stops_noted notes ≡ 0 → AllByRecursion IsNoFailure notes
 boot_fails port state [] is told never = absurd is
 boot_fails port state (Came_up first_port sequence ∷ []) is told never = (tt, tt)
 boot_fails port state (Came_up first_port sequence ∷ note ∷ notes) is told never = absurd is
@@ -59,7 +59,7 @@ cut_fails : (up : Bool) (notes : List Note) (port pick : ℕ) → MayBeNoted up 
 cut_fails true notes port pick may none = absurd (lost notes may none)
 cut_fails false notes port pick may none = none_fail notes may
 
-step_fails : (up : Bool) (port : ℕ) (state : TargetState) (h : HappeningView) (notes : List Note) → MayBeNoted up port h notes → BootIsTold state notes → AllByRecursion IsNoLoss notes
+step_fails : (up : Bool) (port : ℕ) (state : TargetStanding) (h : HappeningView) (notes : List Note) → MayBeNoted up port h notes → BootIsTold state notes → AllByRecursion IsNoLoss notes
     → stops_in h notes ≡ 0 → AllByRecursion IsNoFailure notes
 step_fails up port state Booted notes may told none never = boot_fails port state notes may told never
 step_fails up port state (Power_cut zero pick) notes may told none never = cut_fails up notes port pick may none
@@ -83,7 +83,7 @@ never_fails set (s ∷ earlier) noted told none never =
       never_fails set earlier noted.1 told.1 none.1 before,
     )
 
-boot_tells : (state : TargetState) (notes : List Note) → BootIsTold state notes → TellsActive state notes
+boot_tells : (state : TargetStanding) (notes : List Note) → BootIsTold state notes → TellsActive state notes
 boot_tells state [] told = tt
 boot_tells state (Came_up first_port sequence ∷ []) told = told
 boot_tells state (Came_up first_port sequence ∷ note ∷ notes) told = tt

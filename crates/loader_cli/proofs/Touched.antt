@@ -10,11 +10,11 @@ use Rattle.disk_layout.specs.declared.identity.Identity.{Identity}
 use Rattle.bank_store.specs.Formatting.{LeavesOldOrFormatted}
 use Rattle.media_build.specs.WrittenFolders.{KeepsAllBut}
 use Rattle.upload_replay.specs.Endings.{HoldsSome, StaysAsItWas}
-use Rattle.loader_cli.specs.Commands.{CommandView, FormatsOrRollsBack, IsAny, IsCommand, IsNo, UsesDisk, UsesHost, UsesScript, WritesDisk, WritesHost}
+use Rattle.loader_cli.specs.Commands.{CommandView, FormatsOrRollsBack, IsAny, IsCommand, IsNo, UsesDisk, UsesHost, UsesScript, CommandWritesDisk, WritesHost}
 use Rattle.loader_cli.specs.Commands.CommandView.{format, list, rollback}
 use Rattle.loader_cli.specs.Replays.{LeavesFirstOrGood}
 use Rattle.loader_cli.specs.Rollbacks.{LeavesRollback}
-use Rattle.loader_cli.specs.Runs.{IsWritten}
+use Rattle.loader_cli.specs.Runs.{IsWrittenName}
 use Rattle.loader_cli.specs.Touches.{LeavesByCommand, OnlyLooks, TouchesDisk, TouchesHost}
 use Rattle.loader_cli.proofs.Asked.{formats_no, not_both_asked, one_target, rolls_no}
 use Rattle.loader_cli.proofs.OtherFiles.{nothing_set}
@@ -63,7 +63,7 @@ disk_formatted words before after old new id asked power = record {
 }
 
 -- a script is run on a disk that held a configuration, or that is only read
-pub disk_run : {K : Type 0} (words : List (List ℕ)) (before after : K) (old new : DiskState) (command : CommandView) → IsCommand words command → UsesDisk command → WritesDisk command → UsesScript command
+pub disk_run : {K : Type 0} (words : List (List ℕ)) (before after : K) (old new : DiskState) (command : CommandView) → IsCommand words command → UsesDisk command → CommandWritesDisk command → UsesScript command
     → ((image : Image) (s : StandingView) (f : RecoverFault) → HoldsConfig image s → HasDiskFault image f → ⊥) → OnlyReads old new ⊎ HoldsSome old → TouchesDisk words before after old new
 disk_run words before after old new command asked uses writes runs not_both held = record {
   untouched = λ none. absurd (none command asked uses);
@@ -85,13 +85,13 @@ disk_rolled_back words before after old new asked not_both power left = record {
 -- ---- the host
 
 pub host_unused : {H : Type 0} (words : List (List ℕ)) (host : H) (files : Option Files) → TouchesHost words host host files files
-host_unused words host files = record { untouched = λ none. refl; kept = λ none. refl; others = nothing_set (λ told. IsWritten words told) files files refl }
+host_unused words host files = record { untouched = λ none. refl; kept = λ none. refl; others = nothing_set (λ told. IsWrittenName words told) files files refl }
 
 pub host_read : {H : Type 0} (words : List (List ℕ)) (before after : H) (old new : Option Files) (command : CommandView) → IsCommand words command → UsesHost command → new ≡ old → TouchesHost words before after old new
-host_read words before after old new command asked uses same = record { untouched = λ none. absurd (none command asked uses); kept = λ none. same; others = nothing_set (λ told. IsWritten words told) old new same }
+host_read words before after old new command asked uses same = record { untouched = λ none. absurd (none command asked uses); kept = λ none. same; others = nothing_set (λ told. IsWrittenName words told) old new same }
 
 pub host_written : {H : Type 0} (words : List (List ℕ)) (before after : H) (old new : Option Files) (command : CommandView) → IsCommand words command → UsesHost command → WritesHost command
-    → ForSome old (λ told. KeepsAllBut (IsWritten words told) told new) → TouchesHost words before after old new
+    → ForSome old (λ told. KeepsAllBut (IsWrittenName words told) told new) → TouchesHost words before after old new
 host_written words before after old new command asked uses writes others = record { untouched = λ none. absurd (none command asked uses); kept = λ none. absurd (none command asked writes); others = others }
 
 -- ---- a power loss

@@ -2,7 +2,7 @@
 use Rattle.std.proofs.Common.{◌≡◌, ℕ, ◌+◌, ◌≤◌, ◌⊎◌, inl, inr, List, Option, Some, ap, subst, ◌∙◌, arith}
 use Rattle.std.specs.Option.{ForSome}
 use Rattle.disk_model.specs.Image.{Image}
-use Rattle.disk_model.specs.MomentLaws.{reads_joined}
+use Rattle.disk_model.proofs.MomentLemmas.{reads_joined}
 use Rattle.disk_model.specs.State.{DiskState, OnlyReads}
 use Rattle.disk_layout.specs.Holds.{StandingView}
 use Rattle.disk_layout.specs.Identity.{HasIdentity}

@@ -5,10 +5,10 @@ use Rattle.load_base.specs.Counts.{Rose}
 use Rattle.load_base.specs.Host.{Files, longest_file}
 use Rattle.load_base.specs.declared.sink.WriteFault.TheVariants as writing
 use Rattle.media_check.specs.declared.built.Built.{Built}
-use Rattle.media_build.specs.Building.{AnswersSizes, Builds as BuildsOf, IsSmall, sources_in}
+use Rattle.media_build.specs.Building.{AnswersSizes, Builds as BuildsOf, IsSmallSet, sources_in}
 use Rattle.media_build.specs.FaultTexts.{recipe_fault_text}
 use Rattle.media_build.specs.GeneratedSet.{generated_lines, generated_sources}
-use Rattle.media_build.specs.HostWrites.{Writes, written_files}
+use Rattle.media_build.specs.HostWrites.{WritesToHost, written_files}
 use Rattle.media_build.specs.NoFindings.{built_view}
 use Rattle.media_build.specs.RecipeSets.{loads_of, recipe_set}
 use Rattle.media_build.specs.Recipes.{recipe_said}
@@ -17,7 +17,7 @@ use Rattle.media_build.specs.declared.building_fault.BuildFault.{BuildFault}
 use Rattle.media_build.specs.declared.building_fault.BuildFault.TheVariants.{Failed, Memory}
 use Rattle.media_build.specs.declared.fault.RecipeFault.{RecipeFault}
 use Rattle.media_build.specs.declared.statements.RecipeLine.{RecipeLine}
-use Rattle.loader_cli.specs.HostFiles.{Has, HasTooMany, HostWork, KeepsFiles}
+use Rattle.loader_cli.specs.HostFiles.{HostHas, HasTooMany, HostWork, KeepsFiles}
 use Rattle.loader_cli.specs.Texts.{built_line, host_fault, refused_build, refused_input}
 
 -- ---- writing a set
@@ -25,11 +25,11 @@ use Rattle.loader_cli.specs.Texts.{built_line, host_fault, refused_build, refuse
 -- the status, the text and the host's files where this set, which has this many loads, is written into a folder
 pub data WritesSet (folder : List ℕ) (set : Built) (loads : ℕ) (host : HostWork) (status : ℕ) (text : List ℕ) : Type 0 where
   -- 0: the host has the set's lists and files under their names, and under each other name what it had
-  written : Writes (written_files folder set) host.files host.files_after (Ok tt) → status ≡ 0 → text ≡ built_line loads (length set.bodies.items)
+  written : WritesToHost (written_files folder set) host.files host.files_after (Ok tt) → status ≡ 0 → text ≡ built_line loads (length set.bodies.items)
       → WritesSet folder set loads host status text
   -- 4: the host failed in this call; it has those before one of them, that one may have anything, and each other name has
   -- what it had
-  unwritten : Writes (written_files folder set) host.files host.files_after (Err writing.Failed) → Rose host.faults host.faults_after
+  unwritten : WritesToHost (written_files folder set) host.files host.files_after (Err writing.Failed) → Rose host.faults host.faults_after
       → status ≡ 4 → text ≡ host_fault → WritesSet folder set loads host status text
 
 -- ---- `build RECIPE FOLDER`
@@ -39,7 +39,7 @@ pub data WritesSet (folder : List ℕ) (set : Built) (loads : ℕ) (host : HostW
 pub record AnswersBuild (files : Option Files) (lines : List RecipeLine) (result : Result Built BuildFault) : Type 0 where
   pub sizes : AnswersSizes lines result
   pub builds : ForSome files (BuildsOf lines result)
-  pub small : IfOk result IsSmall
+  pub small : IfOk result IsSmallSet
 
 -- a size or a source is at fault, and not the host or memory
 abbrev pub IsOfInput : BuildFault → Type 0
@@ -69,25 +69,25 @@ pub data BuildsBytes (recipe folder bytes : List ℕ) (host : HostWork) (status 
       → BuildsBytes recipe folder bytes host status text
 
 -- the same for the recipe of this name
-pub data Builds (recipe folder : List ℕ) (host : HostWork) (status : ℕ) (text : List ℕ) : Type 0 where
+pub data BuildsFolder (recipe folder : List ℕ) (host : HostWork) (status : ℕ) (text : List ℕ) : Type 0 where
   -- the host has it with these bytes, at most 16,777,215
-  recipe_read : (bytes : List ℕ) → Has host.files recipe (Some bytes) → length bytes ≤ longest_file → BuildsBytes recipe folder bytes host status text
-      → Builds recipe folder host status text
+  recipe_read : (bytes : List ℕ) → HostHas host.files recipe (Some bytes) → length bytes ≤ longest_file → BuildsBytes recipe folder bytes host status text
+      → BuildsFolder recipe folder host status text
   -- 3: there is no such file
-  recipe_absent : Has host.files recipe None → KeepsFiles host → status ≡ 3 → text ≡ refused_input recipe (codes "absent")
-      → Builds recipe folder host status text
+  recipe_absent : HostHas host.files recipe None → KeepsFiles host → status ≡ 3 → text ≡ refused_input recipe (codes "absent")
+      → BuildsFolder recipe folder host status text
   -- 3: it has more than 16,777,215 bytes
   recipe_too_long : HasTooMany host.files recipe → KeepsFiles host → status ≡ 3 → text ≡ refused_input recipe (codes "toolong")
-      → Builds recipe folder host status text
+      → BuildsFolder recipe folder host status text
   -- 4: the host failed in this call, before a file was written
-  recipe_unread : Rose host.faults host.faults_after → KeepsFiles host → status ≡ 4 → text ≡ host_fault → Builds recipe folder host status text
+  recipe_unread : Rose host.faults host.faults_after → KeepsFiles host → status ≡ 4 → text ≡ host_fault → BuildsFolder recipe folder host status text
 
 -- ---- `make NUMBER FOLDER`
 
 -- the status, the text and the host's files: the generated set of this number is written
-pub data Makes (number : ℕ) (folder : List ℕ) (host : HostWork) (status : ℕ) (text : List ℕ) : Type 0 where
-  set_made : (set : Built) → built_view set ≡ recipe_set (generated_sources number) generated_lines → IsSmall set → WritesSet folder set 1 host status text
-      → Makes number folder host status text
+pub data MakesFolder (number : ℕ) (folder : List ℕ) (host : HostWork) (status : ℕ) (text : List ℕ) : Type 0 where
+  set_made : (set : Built) → built_view set ≡ recipe_set (generated_sources number) generated_lines → IsSmallSet set → WritesSet folder set 1 host status text
+      → MakesFolder number folder host status text
 
 -- ---- under which names they write
 

@@ -2,7 +2,7 @@
 use Rattle.std.specs.Prelude.{ℕ, List, Option}
 use Rattle.load_base.specs.Host.{Files}
 use Rattle.disk_model.specs.State.{DiskState}
-use Rattle.loader_cli.specs.Commands.{IsNo, WritesDisk}
+use Rattle.loader_cli.specs.Commands.{IsNo, CommandWritesDisk}
 use Rattle.loader_cli.specs.Replays.{RunSeen}
 use Rattle.loader_cli.specs.Runs.{EndsAsPromised, Run}
 use Rattle.loader_cli.specs.Touches.{LeavesByCommand, OnlyLooks}
@@ -12,7 +12,7 @@ use Rattle.loader_cli.specs.declared.top_call.Ended.{Ended}
 -- leaves, by the command.
 pub record IsPromised (run : Run) (ended : Ended) : Type 0 where
   pub ends : EndsAsPromised run ended
-  pub looks : IsNo WritesDisk run.work.words → OnlyLooks run.work.disk run.work.disk_after
+  pub looks : IsNo CommandWritesDisk run.work.words → OnlyLooks run.work.disk run.work.disk_after
   pub leaves : LeavesByCommand run.work.words run.work.disk run.work.disk_after
 
 -- A call of `run`: its arguments, the run that it handed out, if one, and host, sink and the disk that the arguments name,

@@ -15,7 +15,7 @@ use Rattle.upload_replay.specs.Moments.{LeavesGood}
 use Rattle.bank_rollback.specs.Rollbacks.{IsActiveOrFormer}
 use Rattle.target_fleet.specs.FleetTexts.{UnitSeen}
 use Rattle.loader_cli.specs.Calls.{Call, IsPromised}
-use Rattle.loader_cli.specs.Commands.{CommandView, FormatsOrRollsBack, IsCommand, IsNo, IsOfFleet, UsesScript, WritesDisk, disk_named}
+use Rattle.loader_cli.specs.Commands.{CommandView, FormatsOrRollsBack, IsCommand, IsNo, IsOfFleet, UsesScript, CommandWritesDisk, disk_named}
 use Rattle.loader_cli.specs.Commands.CommandView.{fleet, format, rollback}
 use Rattle.loader_cli.specs.FleetReplays.{FleetSeen}
 use Rattle.loader_cli.specs.FleetRuns.{FleetCall, FleetEndsAsPromised}
@@ -27,7 +27,7 @@ use Rattle.loader_cli.specs.declared.top_call.Ended.{Ended}
 -- A call after which the next has its premise: the disk runs, and the command doesn't write it, or rolls it back; the disk is as
 -- it was; it was formatted; or a script was run, and it is known what stands on the disk.
 pub data LeavesAtRest (run : Run) (ended : Ended) : Type 0 where
-  looks : IsNo WritesDisk run.work.words → run.work.disk_after.stopped ≡ false → LeavesAtRest run ended
+  looks : IsNo CommandWritesDisk run.work.words → run.work.disk_after.stopped ≡ false → LeavesAtRest run ended
   rolls_back : IsCommand run.work.words rollback → run.work.disk_after.stopped ≡ false → LeavesAtRest run ended
   stays : StaysAsItWas run.work.disk run.work.disk_after → LeavesAtRest run ended
   was_formatted : (id : Identity) → IsCommand run.work.words (format id) → is_some run.work.disk.reads ≡ true → ended.status ≡ 0 → LeavesAtRest run ended
@@ -35,14 +35,14 @@ pub data LeavesAtRest (run : Run) (ended : Ended) : Type 0 where
       → seen.standing ≡ Some last → LeavesAtRest run ended
 
 -- a call, how it ended, and all disks before and after it
-pub record Took (H O K : Type 0) : Type 0 where
+pub record TookCall (H O K : Type 0) : Type 0 where
   pub call : Call H O K
   pub ended : Ended
   pub disks : List K
   pub disks_after : List K
 
 -- Its arguments run no fleet, and it kept what `run` promises, of the disk that they name and of the others.
-pub record KeptPromise {H O K : Type 0} (seen : Call H O K → Run) (took : Took H O K) : Type 0 where
+pub record KeptPromise {H O K : Type 0} (seen : Call H O K → Run) (took : TookCall H O K) : Type 0 where
   pub single : IsNo IsOfFleet took.call.words
   pub named : slice_get took.disks (disk_named took.call.words) ≡ Some took.call.disk
   pub named_after : slice_get took.disks_after (disk_named took.call.words) ≡ Some took.call.disk_after
@@ -53,7 +53,7 @@ pub record KeptPromise {H O K : Type 0} (seen : Call H O K → Run) (took : Took
 -- power loss may leave now, or might have left since its start, holds what was active at its start, or loads of which each
 -- was active then or is checked, and one is checked, unless it formats or rolls back; of `rollback` it holds what was active at
 -- its start, or what the rollback brings.
-pub record Keeps (run : Run) : Type 0 where
+pub record CallKeeps (run : Run) : Type 0 where
   pub rests : LosesOnlyWork run.work.disk
   pub leaves : IsNo FormatsOrRollsBack run.work.words → (set : SetView) (start : StandingView) (image : Image) → run.work.disk.reads ≡ Some image → HoldsConfig image start
       → LeavesGood (setting_of set start) run.work.disk.clock run.work.disk_after
@@ -124,7 +124,7 @@ pub data LeavesUnitAtRest {H O K : Type 0} (place : ℕ) (took : TookFleet H O K
 
 -- a call of one unit, or of a fleet
 pub data Taken (H O K : Type 0) : Type 0 where
-  of_unit : Took H O K → Taken H O K
+  of_unit : TookCall H O K → Taken H O K
   of_fleet : TookFleet H O K → Taken H O K
 
 -- calls that each kept its promise, in their order, the first on these disks and each other on those that were left
@@ -137,7 +137,7 @@ AreInTurn state seen seen_fleet disks (of_fleet took ∷ later) = (took.disks �
 abbrev pub EachKeeps : {H O K : Type 0} → (state : K → DiskState) → (seen : Call H O K → Run) → (place : ℕ) → List (Taken H O K) → Type 0
 EachKeeps state seen place [] = ⊤
 EachKeeps state seen place (of_unit took ∷ later) =
-    (disk_named took.call.words ≡ place → Keeps (seen took.call))
+    (disk_named took.call.words ≡ place → CallKeeps (seen took.call))
     × ((disk_named took.call.words ≡ place → LeavesAtRest (seen took.call) took.ended) → EachKeeps state seen place later)
 EachKeeps state seen place (of_fleet took ∷ later) =
     (place < took.count → KeepsUnit state place took)

@@ -117,18 +117,18 @@ UsesDisk rollback = Unit {0}
 UsesDisk (fleet count folder script) = Unit {0}
 
 -- it writes to the disk
-abbrev pub WritesDisk : CommandView → Type 0
-WritesDisk list = ⊥
-WritesDisk (format id) = Unit {0}
-WritesDisk (show kind file) = ⊥
-WritesDisk (check folder) = ⊥
-WritesDisk (build recipe folder) = ⊥
-WritesDisk (make number folder) = ⊥
-WritesDisk (replay folder script) = Unit {0}
-WritesDisk (wire folder script) = Unit {0}
-WritesDisk (trial number) = Unit {0}
-WritesDisk rollback = Unit {0}
-WritesDisk (fleet count folder script) = Unit {0}
+abbrev pub CommandWritesDisk : CommandView → Type 0
+CommandWritesDisk list = ⊥
+CommandWritesDisk (format id) = Unit {0}
+CommandWritesDisk (show kind file) = ⊥
+CommandWritesDisk (check folder) = ⊥
+CommandWritesDisk (build recipe folder) = ⊥
+CommandWritesDisk (make number folder) = ⊥
+CommandWritesDisk (replay folder script) = Unit {0}
+CommandWritesDisk (wire folder script) = Unit {0}
+CommandWritesDisk (trial number) = Unit {0}
+CommandWritesDisk rollback = Unit {0}
+CommandWritesDisk (fleet count folder script) = Unit {0}
 
 -- it formats the disk
 abbrev pub FormatsDisk : CommandView → Type 0

@@ -59,10 +59,10 @@ pub data GivesRun (told : Telling) (set : SetView) (script : List Line) (image :
   unheld : (fault : RecoverFault) → HasDiskFault image fault → status ≡ 8 → text ≡ no_configuration fault → GivesRun told set script image status text
 
 -- The same for a folder and a script among these files of the host.
-pub data Gives (told : Telling) (folder name : List ℕ) (files : Files) (image : Image) (status : ℕ) (text : List ℕ) : Type 0 where
-  runs : (set : SetView) (script : List Line) → HasInputs script_said folder name (Some files) set script → GivesRun told set script image status text → Gives told folder name files image status text
+pub data ReplayGives (told : Telling) (folder name : List ℕ) (files : Files) (image : Image) (status : ℕ) (text : List ℕ) : Type 0 where
+  runs : (set : SetView) (script : List Line) → HasInputs script_said folder name (Some files) set script → GivesRun told set script image status text → ReplayGives told folder name files image status text
   -- 3: an input is refused, and the host doesn't fail
-  refuses : (before after : ℕ) → ¬ Rose before after → RefusesInputs script_said folder name (Some files) before after status text → Gives told folder name files image status text
+  refuses : (before after : ℕ) → ¬ Rose before after → RefusesInputs script_said folder name (Some files) before after status text → ReplayGives told folder name files image status text
 
 -- The same for the generated set of this number, and the script for the target that the image names.
 pub data GivesTrial (number : ℕ) (image : Image) (status : ℕ) (text : List ℕ) : Type 0 where

@@ -162,14 +162,14 @@ abbrev pub IsBatchCompleted : BatchEnd → Type 0
 IsBatchCompleted batch = batch.end ≡ Completed
 
 -- each session and each batch was completed
-pub record HasCompleted (run : FleetSeen) : Type 0 where
+pub record FleetHasCompleted (run : FleetSeen) : Type 0 where
   pub sessions : All IsCompleted (all_sessions run)
   pub batches : All IsBatchCompleted run.batches
 
 -- the status: 0 where each was, and 1 elsewhere
 pub data StatusOfFleet (run : FleetSeen) (status : ℕ) : Type 0 where
-  all_completed : HasCompleted run → status ≡ 0 → StatusOfFleet run status
-  not_completed : ¬ HasCompleted run → status ≡ 1 → StatusOfFleet run status
+  all_completed : FleetHasCompleted run → status ≡ 0 → StatusOfFleet run status
+  not_completed : ¬ FleetHasCompleted run → status ≡ 1 → StatusOfFleet run status
 
 -- each session with this unit was completed
 abbrev pub HasCompletedAll : UnitEnd → Type 0

@@ -3,9 +3,9 @@ use Rattle.std.specs.Prelude.{◌≡◌, ℕ, ◌<◌, List, length, Option, Som
 use Rattle.load_base.specs.Host.{Files, longest_file}
 
 -- the host has this under the name, where it tells its files
-abbrev pub Has : Option Files → List ℕ → Option (List ℕ) → Type 0
-Has None name file = Unit {0}
-Has (Some files) name file = files name ≡ file
+abbrev pub HostHas : Option Files → List ℕ → Option (List ℕ) → Type 0
+HostHas None name file = Unit {0}
+HostHas (Some files) name file = files name ≡ file
 
 -- the host has more bytes under the name than it reads, where it tells its files
 abbrev pub HasTooMany : Option Files → List ℕ → Type 0

@@ -5,7 +5,7 @@ use Rattle.load_base.specs.Host.{Files}
 use Rattle.batch_lists.specs.Batches.{BatchesListView, batches_list}
 use Rattle.batch_lists.specs.declared.fault.BatchesFault.{BatchesFault}
 use Rattle.media_check.specs.HostNames.{batches_name, files_name, host_name, loads_name}
-use Rattle.media_check.specs.Openings.{IsShort}
+use Rattle.media_check.specs.Openings.{IsShortOnHost}
 use Rattle.media_check.specs.Sets.{found_in, set_view}
 use Rattle.media_check.specs.declared.found.Found.{Found}
 use Rattle.media_check.specs.declared.found.Found.TheVariants.{Read}
@@ -23,15 +23,15 @@ use Rattle.loader_cli.specs.declared.inputs.Inputs.TheVariants.{Ready, Refused}
 
 -- member 1's LOADS.LUM was read, and is this
 abbrev pub HasLoads : (folder : List ℕ) → LoadsListView → Option Files → Type 0
-HasLoads folder list files = ForSome files (λ told. IsShort told (loads_name folder 1) × (found_in loads_list (told (loads_name folder 1)) ≡ Read list))
+HasLoads folder list files = ForSome files (λ told. IsShortOnHost told (loads_name folder 1) × (found_in loads_list (told (loads_name folder 1)) ≡ Read list))
 
 -- its FILES.LUM was
 abbrev pub HasListed : (folder : List ℕ) → FilesListView → Option Files → Type 0
-HasListed folder list files = ForSome files (λ told. IsShort told (files_name folder 1) × (found_in files_list (told (files_name folder 1)) ≡ Read list))
+HasListed folder list files = ForSome files (λ told. IsShortOnHost told (files_name folder 1) × (found_in files_list (told (files_name folder 1)) ≡ Read list))
 
 -- what is found of its BATCHES.LUM, whether or not it is there or refused, is this
 abbrev pub HasBatches : (folder : List ℕ) → Found BatchesListView BatchesFault → Option Files → Type 0
-HasBatches folder found files = ForSome files (λ told. IsShort told (batches_name folder 1) × (found_in batches_list (told (batches_name folder 1)) ≡ found))
+HasBatches folder found files = ForSome files (λ told. IsShortOnHost told (batches_name folder 1) × (found_in batches_list (told (batches_name folder 1)) ≡ found))
 
 -- the set and the script's text, or the first input that is refused, where the host's faults were this many at first
 abbrev pub ReadsInputs : (folder name : List ℕ) → Option Files → (before after : ℕ) → Inputs → Type 0

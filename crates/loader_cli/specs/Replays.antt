@@ -14,8 +14,8 @@ use Rattle.media_lists.specs.Files.{files_list}
 use Rattle.media_lists.specs.Loads.{loads_list}
 use Rattle.media_lists.specs.ListFaultText.{list_fault_text}
 use Rattle.media_lists.specs.declared.fault.ListFault.{ListFault}
-use Rattle.media_check.specs.HostNames.{Reading, batches_name, files_name, further_reading, host_media, loads_name}
-use Rattle.media_check.specs.Openings.{CanRead, IsShort, IsTooLarge, IsTooLong, IsFirstLong}
+use Rattle.media_check.specs.HostNames.{ReadingOrder, batches_name, files_name, further_reading, host_media, loads_name}
+use Rattle.media_check.specs.Openings.{CanRead, IsShortOnHost, IsTooLarge, IsTooLong, IsFirstLong}
 use Rattle.media_check.specs.Sets.{SetView, found_in, lists_in, set_in}
 use Rattle.media_check.specs.declared.found.Found.{Found}
 use Rattle.media_check.specs.declared.found.Found.TheVariants.{Missing, Refused, Read}
@@ -39,7 +39,7 @@ use Rattle.session_completion.specs.FinishedRuns.{IsComplete}
 use Rattle.completion_reports.specs.Reports.{AllReportsAreTrue}
 use Rattle.run_promises.specs.Promises.{ChangesByGoodLoads, IsLeftToLastFinish, TellsTrue}
 use Rattle.upload_replay.specs.declared.outcome.Drive.{Drive}
-use Rattle.upload_replay.specs.Drives.{IsLoadersRun, IsRun, NeverBoots}
+use Rattle.upload_replay.specs.Drives.{IsLoadersRun, IsDrivenRun, NeverBoots}
 use Rattle.upload_replay.specs.Endings.{HeldNone, HoldsNone, HoldsSome, StaysAsItWas}
 use Rattle.replay_turns.specs.Orders.{IsInOrder}
 use Rattle.replay_turns.specs.Powers.{RoseBy, disk_stops}
@@ -49,7 +49,7 @@ use Rattle.upload_replay.specs.Moments.{HoldsAllAlong, LeavesGood}
 use Rattle.upload_replay.specs.Texts.{report, wire}
 use Rattle.loader_cli.specs.Commands.{CommandView}
 use Rattle.loader_cli.specs.Commands.CommandView.{replay as replay_command, wire as wire_command}
-use Rattle.loader_cli.specs.HostFiles.{Has, HasTooMany}
+use Rattle.loader_cli.specs.HostFiles.{HostHas, HasTooMany}
 use Rattle.loader_cli.specs.Texts.{disk_fault, host_fault, no_configuration, refused_input}
 use Rattle.loader_cli.specs.declared.replay.Telling.{Telling}
 use Rattle.loader_cli.specs.declared.replay.Telling.TheVariants as telling
@@ -78,7 +78,7 @@ run_seen drive = record { trace = drive.trace.items; sessions = map session_view
 -- true; the trace is no longer than the script allows; and its lines stand in order.
 pub record IsScriptRun (set : SetView) (script : List Line) (start : StandingView) (run : RunSeen) : Type 0 where
   pub ended : LinkState
-  pub is : IsRun (setting_of set start) (link_of script) ended (steps_of run.trace) run.sessions run.standing
+  pub is : IsDrivenRun (setting_of set start) (link_of script) ended (steps_of run.trace) run.sessions run.standing
   pub good : ChangesByGoodLoads (setting_of set start) (steps_of run.trace)
   pub reports : AllReportsAreTrue (setting_of set start) (steps_of run.trace)
   pub tells : NothingInjected (steps_of run.trace) → TellsTrue (setting_of set start) (steps_of run.trace) run.sessions run.standing
@@ -182,35 +182,35 @@ IsRead (Refused fault) = ⊥
 
 -- the host has a list of this format under the name
 abbrev pub HasList : {V : Type 0} → Grammar ListFault V → Option Files → (name : List ℕ) → Type 0
-HasList format files name = ForSome files (λ told. IsShort told name × IsRead (found_in format (told name)))
+HasList format files name = ForSome files (λ told. IsShortOnHost told name × IsRead (found_in format (told name)))
 
 -- both lists of member 1
-abbrev pub HasLists : (folder : List ℕ) → Option Files → Type 0
-HasLists folder files = HasList loads_list files (loads_name folder 1) × HasList files_list files (files_name folder 1)
+abbrev pub HostHasLists : (folder : List ℕ) → Option Files → Type 0
+HostHasLists folder files = HasList loads_list files (loads_name folder 1) × HasList files_list files (files_name folder 1)
 
 -- there is no such list, or it has this fault; so much is told of it
 pub data RefusesList {V : Type 0} (format : Grammar ListFault V) (files : Option Files) (name told_fault : List ℕ) : Type 0 where
   list_absent : ForSome files (λ told. told name ≡ None) → told_fault ≡ codes "absent" → RefusesList format files name told_fault
-  list_faulty : (fault : ListFault) → ForSome files (λ told. IsShort told name × (found_in format (told name) ≡ Refused fault))
+  list_faulty : (fault : ListFault) → ForSome files (λ told. IsShortOnHost told name × (found_in format (told name) ≡ Refused fault))
       → told_fault ≡ list_fault_text fault → RefusesList format files name told_fault
 
 -- member 1's BATCHES.LUM, and what is read after it
-abbrev pub from_batches : (folder : List ℕ) → Reading → Reading
+abbrev pub from_batches : (folder : List ℕ) → ReadingOrder → ReadingOrder
 from_batches folder further = record { lists = batches_name folder 1 ∷ further.lists; files = further.files }
 
 -- what is read of a set once LOADS.LUM and FILES.LUM of member 1 were
-abbrev pub rest_of : (folder : List ℕ) → Files → Reading
+abbrev pub rest_of : (folder : List ℕ) → Files → ReadingOrder
 rest_of folder files = from_batches folder (further_reading folder (lists_in (host_media files folder) 1))
 
 -- The folder has this set, and all of it can be read.
 pub record HasSet (folder : List ℕ) (files : Option Files) (set : SetView) : Type 0 where
-  pub lists : HasLists folder files
+  pub lists : HostHasLists folder files
   pub rest : ForSome files (λ told. CanRead told (rest_of folder told) × (set ≡ set_in (host_media told folder)))
 
 -- The folder has this set, and the file of this name, which isn't too long, this text.
 pub record HasText (folder name : List ℕ) (files : Option Files) (set : SetView) (text : List ℕ) : Type 0 where
   pub has_set : HasSet folder files set
-  pub there : Has files name (Some text)
+  pub there : HostHas files name (Some text)
   pub short : length text ≤ longest_file
 
 -- The folder has this set, and the file of this name says this script, as such texts are read.
@@ -233,13 +233,13 @@ pub data RefusesText (folder name : List ℕ) (files : Option Files) (before aft
   files_too_long : (file : List ℕ) → HasList loads_list files (loads_name folder 1) → ForSome files (λ told. IsFirstLong told (files_name folder 1 ∷ []) file)
       → status ≡ 3 → text ≡ refused_input file (codes "toolong") → RefusesText folder name files before after status text
   -- 3: a further list or a listed file is too long
-  long_file : (file : List ℕ) → HasLists folder files → ForSome files (λ told. IsTooLong told (rest_of folder told) file)
+  long_file : (file : List ℕ) → HostHasLists folder files → ForSome files (λ told. IsTooLong told (rest_of folder told) file)
       → status ≡ 3 → text ≡ refused_input file (codes "toolong") → RefusesText folder name files before after status text
   -- 3: the listed files are too large together, before one is too long
-  large_set : HasLists folder files → ForSome files (λ told. IsTooLarge told (rest_of folder told))
+  large_set : HostHasLists folder files → ForSome files (λ told. IsTooLarge told (rest_of folder told))
       → status ≡ 3 → text ≡ refused_input folder (codes "toolarge") → RefusesText folder name files before after status text
   -- 3: the folder has a set, and there is no script of this name
-  script_absent : (set : SetView) → HasSet folder files set → Has files name None
+  script_absent : (set : SetView) → HasSet folder files set → HostHas files name None
       → status ≡ 3 → text ≡ refused_input name (codes "absent") → RefusesText folder name files before after status text
   -- 3: it has more than 16,777,215 bytes
   script_too_long : (set : SetView) → HasSet folder files set → HasTooMany files name

@@ -5,14 +5,14 @@ use Rattle.load_base.specs.Counts.{Rose}
 use Rattle.load_base.specs.Host.{Files, longest_file}
 use Rattle.load_base.specs.Sink.{IsExtended}
 use Rattle.media_check.specs.Findings.{findings_of}
-use Rattle.media_check.specs.HostNames.{host_media, Reading, whole_reading}
+use Rattle.media_check.specs.HostNames.{host_media, ReadingOrder, whole_reading}
 use Rattle.media_check.specs.Openings.{CanRead, IsTooLong, IsTooLarge}
 use Rattle.media_check.specs.Sets.{SetView, lists_in, set_in}
 use Rattle.media_build.specs.Building.{CanTake, HaveSizes, fixed_length, source_names, sources_in}
 use Rattle.media_build.specs.GeneratedSet.{generated_lines, generated_sources}
 use Rattle.media_build.specs.RecipeSets.{Sources, loads_of, recipe_bodies}
 use Rattle.media_build.specs.Recipes.{recipe_said}
-use Rattle.media_build.specs.WrittenFolders.{HasNoOtherBatches, HoldsSet, IsCleanFolder}
+use Rattle.media_build.specs.WrittenFolders.{HoldsWritten, IsCleanFolder}
 use Rattle.media_build.specs.declared.statements.RecipeLine.{RecipeLine}
 use Rattle.shown_files.specs.Shown.{HasFields, HasFault}
 use Rattle.shown_files.specs.declared.kind.ShownKind.{ShownKind}
@@ -36,13 +36,13 @@ use Rattle.replay_turns.specs.Powers.{RoseBy}
 use Rattle.upload_replay.specs.Endings.{HoldsSome}
 use Rattle.loader_cli.specs.Commands.{CommandView, IsAny, IsCommand, IsNo, UsesScript}
 use Rattle.loader_cli.specs.Commands.CommandView.{list, format, show, check, build, make, replay, wire, trial, rollback}
-use Rattle.loader_cli.specs.Builds.{Builds, Makes, IsNameBuilt, IsNameMade}
+use Rattle.loader_cli.specs.Builds.{BuildsFolder, MakesFolder, IsNameBuilt, IsNameMade}
 use Rattle.loader_cli.specs.Replays.{HasInputs, Replays, RunSeen, RunsScript, StatusOfRun, run_command, stops_of, told_as}
 use Rattle.loader_cli.specs.Rollbacks.{RollsBackAs}
 use Rattle.loader_cli.specs.Trials.{Trials}
 use Rattle.loader_cli.specs.declared.replay.Telling.{Telling}
 use Rattle.loader_cli.specs.declared.replay.Telling.TheVariants.{Report, Trace}
-use Rattle.loader_cli.specs.HostFiles.{Has, HasTooMany, HostWork}
+use Rattle.loader_cli.specs.HostFiles.{HostHas, HasTooMany, HostWork}
 use Rattle.loader_cli.specs.Texts.{formatted_line, built_line, findings_text, refused_words, refused_input, disk_fault, host_fault, no_configuration}
 use Rattle.loader_cli.specs.declared.top_call.Ended.{Ended}
 
@@ -83,10 +83,10 @@ pub data ShowsBytes (kind : ShownKind) (name bytes : List ℕ) (status : ℕ) (t
 -- the status, the text, and what it says of the host's files and of its faults before and after
 pub data Shows (kind : ShownKind) (files : Option Files) (before after : ℕ) (name : List ℕ) (status : ℕ) (text : List ℕ) : Type 0 where
   -- it has these bytes, at most 16,777,215
-  read : (bytes : List ℕ) → Has files name (Some bytes) → length bytes ≤ longest_file → ShowsBytes kind name bytes status text
+  read : (bytes : List ℕ) → HostHas files name (Some bytes) → length bytes ≤ longest_file → ShowsBytes kind name bytes status text
       → Shows kind files before after name status text
   -- 3: there is no such file
-  absent : Has files name None → status ≡ 3 → text ≡ refused_input name (codes "absent") → Shows kind files before after name status text
+  absent : HostHas files name None → status ≡ 3 → text ≡ refused_input name (codes "absent") → Shows kind files before after name status text
   -- 3: it has more than 16,777,215 bytes
   too_long : HasTooMany files name → status ≡ 3 → text ≡ refused_input name (codes "toolong") → Shows kind files before after name status text
   -- 4: the host failed in this call
@@ -102,7 +102,7 @@ pub data Finds (set : SetView) (status : ℕ) (text : List ℕ) : Type 0 where
   faulty_set : findings_of set ≢ [] → status ≡ 1 → text ≡ findings_text (findings_of set) → Finds set status text
 
 -- what is read of the set in a folder of a host with these files
-abbrev pub reading_of : (folder : List ℕ) → Files → Reading
+abbrev pub reading_of : (folder : List ℕ) → Files → ReadingOrder
 reading_of folder files = whole_reading folder (lists_in (host_media files folder) 1)
 
 -- the status, the text, and what it says of the host's files and of its faults before and after
@@ -155,8 +155,8 @@ pub data Says (work : Work) (status : ℕ) (text : List ℕ) : Type 0 where
       → Shows kind work.files work.host_faults work.host_faults_after file status text → Says work status text
   checks : (folder : List ℕ) → IsCommand work.words (check folder)
       → Checks folder work.files work.host_faults work.host_faults_after status text → Says work status text
-  builds : (recipe folder : List ℕ) → IsCommand work.words (build recipe folder) → Builds recipe folder (host_work work) status text → Says work status text
-  makes : (number : ℕ) (folder : List ℕ) → IsCommand work.words (make number folder) → Makes number folder (host_work work) status text → Says work status text
+  builds : (recipe folder : List ℕ) → IsCommand work.words (build recipe folder) → BuildsFolder recipe folder (host_work work) status text → Says work status text
+  makes : (number : ℕ) (folder : List ℕ) → IsCommand work.words (make number folder) → MakesFolder number folder (host_work work) status text → Says work status text
   replays : (folder script : List ℕ) → IsCommand work.words (replay folder script)
       → Replays Report folder script work.files work.host_faults work.host_faults_after work.disk work.disk_after work.handed status text → Says work status text
   traces : (folder script : List ℕ) → IsCommand work.words (wire folder script)
@@ -197,9 +197,9 @@ pub record RunsOutInCommand (work : Work) : Type 0 where
   pub disk : DiskRunsOut work
 
 -- why memory is out: the command had this to say, and it ran out as that was put; or it ran out in the command
-pub data RunsOutOfMemory (work : Work) : Type 0 where
-  as_it_was_put : (handed : Option RunSeen) (status : ℕ) (text : List ℕ) → TellsAll (handing handed work) status text → RunsOutOfMemory work
-  in_command : RunsOutInCommand work → RunsOutOfMemory work
+pub data CommandRunsOut (work : Work) : Type 0 where
+  as_it_was_put : (handed : Option RunSeen) (status : ℕ) (text : List ℕ) → TellsAll (handing handed work) status text → CommandRunsOut work
+  in_command : RunsOutInCommand work → CommandRunsOut work
 
 -- how a run ends
 pub data Ends (run : Run) (ended : Ended) : Type 0 where
@@ -209,7 +209,7 @@ pub data Ends (run : Run) (ended : Ended) : Type 0 where
   sink_failed : (status : ℕ) (text : List ℕ) (n : ℕ) → TellsAll run.work status text → IsExtended run.output run.output_after (take n text)
       → Rose run.sink_faults run.sink_faults_after → ended.status ≡ 7 → Ends run ended
   -- 6: out of memory
-  no_memory : ended.status ≡ 6 → run.work.handed ≡ None → RunsOutOfMemory run.work → Ends run ended
+  no_memory : ended.status ≡ 6 → run.work.handed ≡ None → CommandRunsOut run.work → Ends run ended
 
 -- ---- where a run can't but succeed
 
@@ -340,12 +340,11 @@ pub data WritesInto (words : List (List ℕ)) (folder : List ℕ) : Type 0 where
   of_recipe : (recipe : List ℕ) → IsCommand words (build recipe folder) → WritesInto words folder
   of_number : (number : ℕ) → IsCommand words (make number folder) → WritesInto words folder
 
--- The host tells its files after the run, and has the set of a recipe in this folder, in which nothing is wrong; but where the
--- recipe has no batches, another set's list of batches may have stood there.
+-- The host tells its files after the run, and has in this folder what was written of the set of a recipe.
 pub record LeavesFolder (folder : List ℕ) (before : Files) (after : Option Files) (sources : Sources) (lines : List RecipeLine) : Type 0 where
   pub files : Files
   pub told : after ≡ Some files
-  pub holds : HasNoOtherBatches folder before lines → HoldsSet folder files sources lines
+  pub holds : HoldsWritten folder before files sources lines
 
 -- After the run the host has in this folder the set that the arguments name, of the recipe and the sources that it had.
 pub data LeavesSet (words : List (List ℕ)) (told : Files) (folder : List ℕ) (after : Option Files) : Type 0 where
@@ -355,9 +354,9 @@ pub data LeavesSet (words : List (List ℕ)) (told : Files) (folder : List ℕ) 
       → LeavesSet words told folder after
 
 -- A name under which the arguments write: the set that they build or make has a list or a file there.
-pub data IsWritten (words : List (List ℕ)) (told : Files) (name : List ℕ) : Type 0 where
-  built : (recipe folder : List ℕ) → IsCommand words (build recipe folder) → IsNameBuilt recipe folder told name → IsWritten words told name
-  made : (number : ℕ) (folder : List ℕ) → IsCommand words (make number folder) → IsNameMade number folder name → IsWritten words told name
+pub data IsWrittenName (words : List (List ℕ)) (told : Files) (name : List ℕ) : Type 0 where
+  built : (recipe folder : List ℕ) → IsCommand words (build recipe folder) → IsNameBuilt recipe folder told name → IsWrittenName words told name
+  made : (number : ℕ) (folder : List ℕ) → IsCommand words (make number folder) → IsNameMade number folder name → IsWrittenName words told name
 
 -- ---- the whole
 

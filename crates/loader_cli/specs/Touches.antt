@@ -9,11 +9,11 @@ use Rattle.disk_layout.specs.declared.fault.RecoverFault.{RecoverFault}
 use Rattle.disk_layout.specs.declared.identity.Identity.{Identity}
 use Rattle.bank_store.specs.Formatting.{LeavesOldOrFormatted}
 use Rattle.media_build.specs.WrittenFolders.{KeepsAllBut}
-use Rattle.loader_cli.specs.Commands.{FormatsDisk, FormatsOrRollsBack, IsCommand, IsNo, UsesDisk, UsesHost, UsesScript, WritesDisk, WritesHost, IsOfFleet, disk_named}
+use Rattle.loader_cli.specs.Commands.{FormatsDisk, FormatsOrRollsBack, IsCommand, IsNo, UsesDisk, UsesHost, UsesScript, CommandWritesDisk, WritesHost, IsOfFleet, disk_named}
 use Rattle.loader_cli.specs.Commands.CommandView.{fleet, format, rollback}
 use Rattle.loader_cli.specs.Replays.{LeavesFirstOrGood}
 use Rattle.loader_cli.specs.Rollbacks.{LeavesRollback}
-use Rattle.loader_cli.specs.Runs.{IsWritten}
+use Rattle.loader_cli.specs.Runs.{IsWrittenName}
 
 -- this holds of the disk that the arguments name, as it was and as it is, where they run no fleet
 abbrev pub OnNamed : {K : Type 0} → List (List ℕ) → (old new : List K) → (Holds : (before after : K) → Type 0) → Type 0
@@ -43,7 +43,7 @@ ReadsWhereNoneIs old new = (image : Image) (fault : RecoverFault) → old.reads 
 -- configuration, by each but `format`. No loss of power is armed but in a run of a script.
 pub record TouchesDisk {K : Type 0} (words : List (List ℕ)) (before after : K) (old new : DiskState) : Type 0 where
   pub untouched : IsNo UsesDisk words → after ≡ before
-  pub looks : IsNo WritesDisk words → OnlyLooks old new
+  pub looks : IsNo CommandWritesDisk words → OnlyLooks old new
   pub none_held : IsNo FormatsDisk words → ReadsWhereNoneIs old new
   pub never_armed : IsNo UsesScript words → KeepsPower old new
 
@@ -52,7 +52,7 @@ pub record TouchesDisk {K : Type 0} (words : List (List ℕ)) (before after : K)
 pub record TouchesHost {H : Type 0} (words : List (List ℕ)) (before after : H) (old new : Option Files) : Type 0 where
   pub untouched : IsNo UsesHost words → after ≡ before
   pub kept : IsNo WritesHost words → new ≡ old
-  pub others : ForSome old (λ told. KeepsAllBut (IsWritten words told) told new)
+  pub others : ForSome old (λ told. KeepsAllBut (IsWrittenName words told) told new)
 
 -- What a power loss leaves: of `format` the old configuration whole, nothing, or the formatted disk; of `rollback` what was
 -- active at first, or what the rollback brings; of each other command what was active at first, or loads of which each was

@@ -7,7 +7,8 @@ ghost use Rattle.media_build.specs.NoFindings.{built_view};
 ghost use Rattle.media_build.specs.RecipeSets.{loads_of, recipe_set};
 ghost use Rattle.media_build.specs.WrittenFolders.{IsNameIn, KeepsAllBut};
 ghost use Rattle.loader_cli.specs.Answers.{HidesNoFault, status_of, text_of};
-ghost use Rattle.loader_cli.specs.Builds.{Builds, BuildsBytes, BuildsLines, Makes, WritesSet};
+ghost use Rattle.loader_cli.specs.Builds.{BuildsFolder, BuildsBytes, BuildsLines, MakesFolder};
+ghost use Rattle.loader_cli.specs.Builds.{WritesSet};
 ghost use Rattle.loader_cli.specs.Builds.{IsNameSaid, IsNameBuilt, IsNameMade};
 
 use crate::answer::Answer;
@@ -18,7 +19,7 @@ use media_check::Built;
 use printed_text::{Printed, coded};
 use std::alloc::Global;
 
-/// Builds the set that the recipe of this name says into a folder.
+/// BuildsFolder the set that the recipe of this name says into a folder.
 pub(crate) fn build<'w, H: Host>(
     alloc: Global,
     host: &mut H,
@@ -26,7 +27,7 @@ pub(crate) fn build<'w, H: Host>(
     folder: &str,
 ) -> Result<Answer<'w>, NoMemory>
     requires { length folder.now ≤ 150 }
-    ensures says { IfOk result (λ answer. Builds recipe.now folder.now (record {
+    ensures says { IfOk result (λ answer. BuildsFolder recipe.now folder.now (record {
       files = H.files host.old;
       files_after = H.files host.new;
       faults = H.faults host.old;
@@ -47,7 +48,7 @@ pub(crate) fn build<'w, H: Host>(
     }
 }
 
-// The same for the text of the recipe.
+/// The same for the text of the recipe.
 fn build_text<'w, H: Host>(
     alloc: Global,
     host: &mut H,
@@ -79,7 +80,7 @@ fn build_text<'w, H: Host>(
     }
 }
 
-// The same for the recipe.
+/// The same for the recipe.
 fn build_recipe<'w, H: Host>(
     alloc: Global,
     host: &mut H,
@@ -123,7 +124,7 @@ fn build_recipe<'w, H: Host>(
     }
 }
 
-// How many loads these lines have.
+/// How many loads these lines have.
 fn load_count(lines: &[RecipeLine]) -> u64
     ensures { result ≡ length (loads_of lines.now) }
 {
@@ -142,7 +143,7 @@ fn is_load(statement: &Statement) -> bool
     matches!(statement, Statement::Load(_))
 }
 
-/// Makes the generated set of a number in a folder.
+/// MakesFolder the generated set of a number in a folder.
 pub(crate) fn make<'w, H: Host>(
     alloc: Global,
     host: &mut H,
@@ -150,7 +151,7 @@ pub(crate) fn make<'w, H: Host>(
     folder: &str,
 ) -> Result<Answer<'w>, NoMemory>
     requires { length folder.now ≤ 150 }
-    ensures says { IfOk result (λ answer. Makes number folder.now (record {
+    ensures says { IfOk result (λ answer. MakesFolder number folder.now (record {
       files = H.files host.old;
       files_after = H.files host.new;
       faults = H.faults host.old;
@@ -168,7 +169,7 @@ pub(crate) fn make<'w, H: Host>(
     said
 }
 
-// Writes a set with this many loads into a folder.
+/// Writes a set with this many loads into a folder.
 fn write_set<'w, H: Host>(
     alloc: Global,
     host: &mut H,

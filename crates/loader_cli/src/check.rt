@@ -53,7 +53,7 @@ fn check_set<'w>(alloc: Global, set: &MediaSet) -> Result<Answer<'w>, NoMemory>
     }
 }
 
-// The findings, a line each, and their number.
+/// The findings, a line each, and their number.
 #[tactic(auto, unfolding(printed_text::specs::Lines::field_line))]
 fn findings_text(alloc: Global, findings: &[Finding]) -> Result<Bytes, NoMemory>
     ensures { IfOk result (λ text. text.items ≡ text_of_findings findings.now) }
@@ -85,7 +85,7 @@ fn put_finding(alloc: Global, out: &mut Bytes, finding: &Finding) -> Result<(), 
     put_file(out, &finding.file, &finding.detail)
 }
 
-// The name of the list or file, the detail where there is one, and the line's end.
+/// The name of the list or file, the detail where there is one, and the line's end.
 #[tactic(auto, using(crate::proofs::Details::no_detail, crate::proofs::Details::some_detail))]
 fn put_file(out: &mut Bytes, file: &Text, detail: &Text) -> Result<(), NoMemory>
     ensures { OnOk result

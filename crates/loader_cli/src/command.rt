@@ -1,5 +1,6 @@
 //! The commands.
-ghost use Rattle.std.specs.Prelude.{◌≡◌, ◌≢◌, ◌↔◌, ◌<◌, ◌≤◌, ◌+◌, ◌^◌, ℕ, ◌∷◌, codes, IsTrue, IfSome};
+ghost use Rattle.std.specs.Prelude.{◌≡◌, ◌≢◌, ◌↔◌, ◌<◌, ◌≤◌, ◌+◌, ◌^◌, ℕ, ◌∷◌, codes, IsTrue};
+ghost use Rattle.std.specs.Prelude.{IfSome};
 ghost use Rattle.std.specs.Prelude.{IfNone};
 ghost use Rattle.std.specs.Fmt.{decimal};
 ghost use Rattle.disk_layout.specs.Offsets.{IsBankSize};
@@ -18,10 +19,10 @@ use itoa::Buffer;
 use load_base::Ident;
 use shown_files::ShownKind;
 
-// How many units there are.
+/// How many units there are.
 const UNITS: u32 = 8;
 
-// A fleet has two units at least.
+/// A fleet has two units at least.
 const FEWEST_OF_FLEET: u32 = 2;
 
 /// What the program's arguments ask for, and of which units.
@@ -61,7 +62,7 @@ impl<'w> Asked<'w> {
     }
 }
 
-// What the words after `on` ask for: the number of a unit, and a command that looks after one.
+/// What the words after `on` ask for: the number of a unit, and a command that looks after one.
 fn of_unit<'w>(words: &'w [String]) -> Option<Asked<'w>>
     ensures some { IfSome result (λ asked.
         IsCommand (codes "on" ∷ texts_of words.now) (asked_view asked)) }
@@ -76,7 +77,7 @@ fn of_unit<'w>(words: &'w [String]) -> Option<Asked<'w>>
     }
 }
 
-// What the words after `fleet` ask for: how many units, a folder and a script.
+/// What the words after `fleet` ask for: how many units, a folder and a script.
 fn of_fleet<'w>(words: &'w [String]) -> Option<Asked<'w>>
     ensures some { IfSome result (λ asked.
         IsCommand (codes "fleet" ∷ texts_of words.now) (asked_view asked)) }
@@ -89,7 +90,7 @@ fn of_fleet<'w>(words: &'w [String]) -> Option<Asked<'w>>
     }
 }
 
-// The command `fleet` for these words.
+/// The command `fleet` for these words.
 fn fleet_of<'w>(count: &str, folder: &'w str, script: &'w str) -> Option<Asked<'w>>
     ensures some { IfSome result (IsFleetOf count.now folder.now script.now) }
     ensures none { IfNone result ((n : ℕ) → count.now ≡ decimal n → 2 ≤ n → n ≤ 8
@@ -106,7 +107,7 @@ fn fleet_of<'w>(count: &str, folder: &'w str, script: &'w str) -> Option<Asked<'
     })
 }
 
-// How many units a fleet has: 2 to 8.
+/// How many units a fleet has: 2 to 8.
 fn count_of(word: &str) -> Option<usize>
     ensures some { IfSome result (λ count. (word.now ≡ decimal count) × (2 ≤ count)
         × (count ≤ 8)) }
@@ -118,7 +119,7 @@ fn count_of(word: &str) -> Option<usize>
     }
 }
 
-// The place of the unit of this number, from 0.
+/// The place of the unit of this number, from 0.
 fn place_of(word: &str) -> Option<usize>
     ensures some { IfSome result (λ place. (word.now ≡ decimal (place + 1)) × (place < 8)) }
     ensures none { IfNone result ((n : ℕ) → 1 ≤ n → n ≤ 8 → word.now ≢ decimal n) }
@@ -155,7 +156,7 @@ pub(crate) enum Command<'w> {
 }
 
 impl<'w> Command<'w> {
-    // The command; `None` where the words are none.
+    /// The command; `None` where the words are none.
     fn read(words: &'w [String]) -> Option<Command<'w>>
         ensures some { IfSome result (λ command.
             IsPlain (texts_of words.now) (command_view command)) }
@@ -190,7 +191,7 @@ impl<'w> Command<'w> {
         }
     }
 
-    // Whether it looks after one unit, so that `on N` may stand before it.
+    /// Whether it looks after one unit, so that `on N` may stand before it.
     fn looks_after_unit(&self) -> bool
         ensures { IsTrue result ↔ LooksAfterUnit (command_view self.now) }
     {
@@ -198,7 +199,7 @@ impl<'w> Command<'w> {
     }
 }
 
-// The command `show` for a file of this name.
+/// The command `show` for a file of this name.
 fn show_of(file: &str) -> Option<Command<'_>>
     ensures some { IfSome result (λ command. (kind : ShownKind)
         × (command_view command ≡ show kind file.now) × IsWord file.now × IsNameOf kind file.now) }
@@ -212,7 +213,7 @@ fn show_of(file: &str) -> Option<Command<'_>>
     Some(Command::Show { kind, file })
 }
 
-// The command `check` for this folder.
+/// The command `check` for this folder.
 fn check_of(folder: &str) -> Option<Command<'_>>
     ensures some { IfSome result (λ command.
         (command_view command ≡ check folder.now) × IsWord folder.now) }
@@ -225,7 +226,7 @@ fn check_of(folder: &str) -> Option<Command<'_>>
     }
 }
 
-// The command `build` for this recipe and folder.
+/// The command `build` for this recipe and folder.
 fn build_of<'w>(recipe: &'w str, folder: &'w str) -> Option<Command<'w>>
     ensures some { IfSome result (λ command.
         (command_view command ≡ build recipe.now folder.now)
@@ -239,7 +240,7 @@ fn build_of<'w>(recipe: &'w str, folder: &'w str) -> Option<Command<'w>>
     }
 }
 
-// The command `make` for this number and folder.
+/// The command `make` for this number and folder.
 fn make_of<'w>(digits: &'w str, folder: &'w str) -> Option<Command<'w>>
     ensures some { IfSome result (λ command. (n : ℕ) × (command_view command ≡ make n folder.now)
         × (digits.now ≡ decimal n) × (n < 2 ^ 32) × IsWord folder.now) }
@@ -253,7 +254,7 @@ fn make_of<'w>(digits: &'w str, folder: &'w str) -> Option<Command<'w>>
     Some(Command::Make { number, folder })
 }
 
-// The command `replay` for this folder and script.
+/// The command `replay` for this folder and script.
 fn replay_of<'w>(folder: &'w str, script: &'w str) -> Option<Command<'w>>
     ensures some { IfSome result (λ command.
         (command_view command ≡ replay folder.now script.now)
@@ -267,7 +268,7 @@ fn replay_of<'w>(folder: &'w str, script: &'w str) -> Option<Command<'w>>
     }
 }
 
-// The command `wire` for this folder and script.
+/// The command `wire` for this folder and script.
 fn wire_of<'w>(folder: &'w str, script: &'w str) -> Option<Command<'w>>
     ensures some { IfSome result (λ command.
         (command_view command ≡ wire folder.now script.now)
@@ -281,7 +282,7 @@ fn wire_of<'w>(folder: &'w str, script: &'w str) -> Option<Command<'w>>
     }
 }
 
-// The command `trial` for this number.
+/// The command `trial` for this number.
 fn trial_of<'w>(digits: &str) -> Option<Command<'w>>
     ensures some { IfSome result (λ command. (n : ℕ) × (command_view command ≡ trial n)
         × (digits.now ≡ decimal n) × (n < 2 ^ 32)) }
@@ -291,7 +292,7 @@ fn trial_of<'w>(digits: &str) -> Option<Command<'w>>
     Some(Command::Trial { number })
 }
 
-// The target that these arguments name.
+/// The target that these arguments name.
 fn target(hw: &str, pos: &str, serial: &str, bank: &str) -> Option<Identity>
     ensures some { IfSome result (λ id. NamesTarget hw.now pos.now serial.now bank.now id) }
     ensures none { IfNone result
@@ -315,7 +316,7 @@ fn target(hw: &str, pos: &str, serial: &str, bank: &str) -> Option<Identity>
     })
 }
 
-// The size of a bank in decimal digits.
+/// The size of a bank in decimal digits.
 fn bank_size(word: &str) -> Option<u32>
     ensures some { IfSome result (λ size. (word.now ≡ decimal size) × IsBankSize size) }
     ensures none { IfNone result ((size : ℕ) → IsBankSize size → word.now ≢ decimal size) }
@@ -326,7 +327,7 @@ fn bank_size(word: &str) -> Option<u32>
     }
 }
 
-// A number in decimal digits, without a sign or a leading zero.
+/// A number in decimal digits, without a sign or a leading zero.
 fn number(word: &str) -> Option<u32>
     ensures some { IfSome result (λ n. (word.now ≡ decimal n) × (n < 2 ^ 32)) }
     ensures none { IfNone result ((n : ℕ) → n < 2 ^ 32 → word.now ≢ decimal n) }

@@ -60,7 +60,7 @@ pub(crate) fn replay_fleet<'w, H: Host, K: Power>(
     }
 }
 
-// Runs the script of this name and text, with as many units as there are disks.
+/// Runs the script of this name and text, with as many units as there are disks.
 fn run_fleet_text<'w, K: Power>(
     alloc: Global,
     disks: &mut [K],
@@ -87,7 +87,7 @@ fn run_fleet_text<'w, K: Power>(
     }
 }
 
-// Runs a script on a media set and the targets of these disks.
+/// Runs a script on a media set and the targets of these disks.
 fn run_fleet<'w, K: Power>(
     alloc: Global,
     disks: &mut [K],
@@ -130,7 +130,7 @@ fn run_fleet<'w, K: Power>(
     }
 }
 
-// What is told of a run.
+/// What is told of a run.
 fn tell_fleet<'w>(alloc: Global, run: &FleetDrive) -> Result<Answer<'w>, NoMemory>
     ensures { IfOk result (λ answer. TellsFleet (fleet_seen run.now) (status_of answer)
         (text_of answer)) }
@@ -146,7 +146,7 @@ fn tell_fleet<'w>(alloc: Global, run: &FleetDrive) -> Result<Answer<'w>, NoMemor
     }
 }
 
-// Whether it is known of each unit what stands on its disk.
+/// Whether it is known of each unit what stands on its disk.
 fn are_known(units: &[UnitEnd]) -> bool
     ensures { IsTrue result ↔ All (λ unit. IsSome unit.standing) units.now }
 {
@@ -159,7 +159,7 @@ fn is_known(unit: &UnitEnd) -> bool
     unit.standing.is_some()
 }
 
-// Whether each session and each batch was completed.
+/// Whether each session and each batch was completed.
 fn is_complete(run: &FleetDrive) -> bool
     ensures { IsTrue result ↔ (All HasCompletedAll run.now.units.items
         × All IsBatchCompleted run.now.batches.items) }
@@ -167,7 +167,7 @@ fn is_complete(run: &FleetDrive) -> bool
     have_completed(run.units.as_slice()) && are_batches_completed(run.batches.as_slice())
 }
 
-// Whether each batch was completed.
+/// Whether each batch was completed.
 fn are_batches_completed(batches: &[BatchEnd]) -> bool
     ensures { IsTrue result ↔ All IsBatchCompleted batches.now }
 {
@@ -180,7 +180,7 @@ fn is_batch_completed(batch: &BatchEnd) -> bool
     matches!(batch.end, BatchOutcome::Completed)
 }
 
-// Whether each session with each unit was completed.
+/// Whether each session with each unit was completed.
 fn have_completed(units: &[UnitEnd]) -> bool
     ensures { IsTrue result ↔ All HasCompletedAll units.now }
 {

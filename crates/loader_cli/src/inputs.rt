@@ -57,7 +57,7 @@ pub(crate) fn read_inputs<'w, H: Host>(
     }
 }
 
-// The same once `LOADS.LUM` was read.
+/// The same once `LOADS.LUM` was read.
 fn read_files<'w, H: Host>(
     alloc: Global,
     host: &mut H,
@@ -82,7 +82,7 @@ fn read_files<'w, H: Host>(
     }
 }
 
-// The same once both lists were read. A list of batches that is absent or refused stops nothing.
+/// The same once both lists were read. A list of batches that is absent or refused stops nothing.
 fn read_batches<'w, H: Host>(
     alloc: Global,
     host: &mut H,
@@ -108,7 +108,7 @@ fn read_batches<'w, H: Host>(
     }
 }
 
-// The same once all lists of member 1 were read.
+/// The same once all lists of member 1 were read.
 fn read_rest<'w, H: Host>(
     alloc: Global,
     host: &mut H,
@@ -138,7 +138,7 @@ fn read_rest<'w, H: Host>(
     }
 }
 
-// The same once the set was read.
+/// The same once the set was read.
 fn read_text<'w, H: Host>(
     alloc: Global,
     host: &mut H,
@@ -184,7 +184,7 @@ pub(crate) fn refused_script<'w>(
     }
 }
 
-// That a list of member 1 is absent.
+/// That a list of member 1 is absent.
 fn absent_list<'w>(alloc: Global, folder: &[u8], list: &[u8]) -> Result<Inputs<'w>, NoMemory>
     ensures { IfOk result (λ inputs. IsRefusal inputs
         (refused_input (list_name folder.now list.now) (codes "absent"))) }
@@ -193,7 +193,7 @@ fn absent_list<'w>(alloc: Global, folder: &[u8], list: &[u8]) -> Result<Inputs<'
     Ok(Inputs::Refused(Answer::AbsentFile(name)))
 }
 
-// That it has this fault.
+/// That it has this fault.
 fn refused_list<'w>(
     alloc: Global,
     folder: &[u8],

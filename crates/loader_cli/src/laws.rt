@@ -11,12 +11,12 @@ ghost use Rattle.run_promises.specs.Promises.{HoldsFirstOrGood};
 ghost use Rattle.bank_rollback.specs.Rollbacks.{IsActiveOrFormer};
 ghost use Rattle.loader_cli.specs.Calls.{Call, IsPromised, run_of};
 ghost use Rattle.loader_cli.specs.Chains.{AreInTurn, EachKeeps, IsRestarted, KeptFleetPromise};
-ghost use Rattle.loader_cli.specs.Chains.{KeptPromise, StandsAgain, Taken, Took, TookFleet};
+ghost use Rattle.loader_cli.specs.Chains.{KeptPromise, StandsAgain, Taken, TookCall, TookFleet};
 ghost use Rattle.loader_cli.specs.Chains.{fleet_call_of};
 ghost use Rattle.loader_cli.specs.Commands.{FormatsDisk, FormatsOrRollsBack, IsCommand, IsNo};
 ghost use Rattle.loader_cli.specs.Commands.{disk_named};
 ghost use Rattle.loader_cli.specs.Commands.CommandView.{format, rollback};
-ghost use Rattle.loader_cli.specs.FixedOutputs.{CallsSteadily, Gives, GivesTrial, PutTheSame};
+ghost use Rattle.loader_cli.specs.FixedOutputs.{CallsSteadily, ReplayGives, GivesTrial, PutTheSame};
 ghost use Rattle.loader_cli.specs.FixedOutputs.{PutsOnly, ReplaysSteadily, TriesSteadily};
 ghost use Rattle.loader_cli.specs.Replays.{setting_of};
 ghost use Rattle.loader_cli.specs.declared.replay.Telling.{Telling};
@@ -42,12 +42,12 @@ pub fn a_replay_is_fixed_by_its_inputs<H: Host, O: Sink, K: Power>()
         (files : Files) (image : Image)
         → ReplaysSteadily (run_of H.files H.faults O.content O.faults K.state call) ended told
         folder name files image → PutsOnly (run_of H.files H.faults O.content O.faults K.state call)
-        ended (Gives told folder name files image) }
+        ended (ReplayGives told folder name files image) }
     // which give one status and one text.
     ensures one { (told : Telling) (folder name : List ℕ) (files : Files) (image : Image)
         (status status_2 : ℕ) (text text_2 : List ℕ)
-        → Gives told folder name files image status text
-        → Gives told folder name files image status_2 text_2
+        → ReplayGives told folder name files image status text
+        → ReplayGives told folder name files image status_2 text_2
         → (status ≡ status_2) × (text ≡ text_2) }
     // So two calls on the same inputs put the same, where neither is out of memory.
     ensures same { (one two : Call H O K) (first second : Ended) (told : Telling)
@@ -113,19 +113,19 @@ pub fn two_calls_put_the_same<H: Host, O: Sink, K: Power>()
 
 /// Commands follow one another on each unit's disk, whatever commands of other units and whatever
 /// fleets stand between them: each keeps what `run` promises on a disk at rest, as long as those
-/// before it that use this disk left it at rest. So it is from a disk at rest on, and after `format`
-/// with status 0 on any disk that tells its content. After a call that didn't leave it so, since the
-/// disk failed, power was lost or memory ran out, a restart of the disk does: it is at rest then,
-/// and what stands on it was active as the call began, or each of its loads was active then or is
-/// checked, and one is checked; so it is of each unit of a fleet. After `rollback` it was active as
-/// the call began, or is what the rollback brings.
+/// before it that use this disk left it at rest. So it is from a disk at rest on, and after
+/// `format` with status 0 on any disk that tells its content. After a call that didn't leave it so,
+/// since the disk failed, power was lost or memory ran out, a restart of the disk does: it is at
+/// rest then, and what stands on it was active as the call began, or each of its loads was active
+/// then or is checked, and one is checked; so it is of each unit of a fleet. After `rollback` it
+/// was active as the call began, or is what the rollback brings.
 pub fn commands_follow_one_another<H: Host, O: Sink, K: Power>()
     ensures at_rest { (place : ℕ) (disk : K) (disks : List K) (calls : List (Taken H O K))
         → slice_get disks place ≡ Some disk → LosesOnlyWork (K.state disk)
         → AreInTurn K.state (run_of H.files H.faults O.content O.faults K.state)
         (fleet_call_of H.files H.faults O.content O.faults) disks calls
         → EachKeeps K.state (run_of H.files H.faults O.content O.faults K.state) place calls }
-    ensures after_format { (first : Took H O K) (id : Identity) (calls : List (Taken H O K))
+    ensures after_format { (first : TookCall H O K) (id : Identity) (calls : List (Taken H O K))
         → KeptPromise (run_of H.files H.faults O.content O.faults K.state) first
         → IsCommand first.call.words (format id) → is_some (K.state first.call.disk).reads ≡ true
         → first.ended.status ≡ 0
@@ -133,18 +133,18 @@ pub fn commands_follow_one_another<H: Host, O: Sink, K: Power>()
         (fleet_call_of H.files H.faults O.content O.faults) first.disks_after calls
         → EachKeeps K.state (run_of H.files H.faults O.content O.faults K.state)
         (disk_named first.call.words) calls }
-    ensures after_restart { (last : Took H O K) (disk : K)
+    ensures after_restart { (last : TookCall H O K) (disk : K)
         → IsPromised (run_of H.files H.faults O.content O.faults K.state last.call) last.ended
         → IsNo FormatsDisk last.call.words → LosesOnlyWork (K.state last.call.disk)
         → IsRestarted (K.state last.call.disk_after) (K.state disk) → LosesOnlyWork (K.state disk) }
-    ensures stands_then { (last : Took H O K) (disk : K) (set : SetView) (start : StandingView)
+    ensures stands_then { (last : TookCall H O K) (disk : K) (set : SetView) (start : StandingView)
         (image : Image)
         → IsPromised (run_of H.files H.faults O.content O.faults K.state last.call) last.ended
         → IsNo FormatsOrRollsBack last.call.words → LosesOnlyWork (K.state last.call.disk)
         → (K.state last.call.disk).reads ≡ Some image → HoldsConfig image start
         → IsRestarted (K.state last.call.disk_after) (K.state disk)
         → ForSome (K.state disk).reads (HoldsFirstOrGood (setting_of set start)) }
-    ensures rolled_back_then { (last : Took H O K) (disk : K) (active : StandingView)
+    ensures rolled_back_then { (last : TookCall H O K) (disk : K) (active : StandingView)
         (image : Image)
         → IsPromised (run_of H.files H.faults O.content O.faults K.state last.call) last.ended
         → IsCommand last.call.words rollback → LosesOnlyWork (K.state last.call.disk)

@@ -79,7 +79,7 @@ pub(crate) fn replay<'w, H: Host, K: Power>(
     }
 }
 
-// Runs the script of this name and text.
+/// Runs the script of this name and text.
 fn run_text<'w, K: Power>(
     alloc: Global,
     disk: &mut K,
@@ -147,7 +147,7 @@ pub(crate) fn run_script<'w, K: Power>(
     }
 }
 
-// What is told of a run.
+/// What is told of a run.
 fn tell<'w>(alloc: Global, telling: Telling, run: &Drive) -> Result<Answer<'w>, NoMemory>
     ensures { IfOk result (λ answer. Tells telling (run_seen run.now)
         (option_map standing_view run.now.standing) (status_of answer) (text_of answer)) }

@@ -36,7 +36,7 @@ pub(crate) fn rollback<'w, K: Disk>(alloc: Global, disk: &mut K) -> Result<Answe
     }
 }
 
-// What the disk holds then, as `list` prints it.
+/// What the disk holds then, as `list` prints it.
 fn listed<'w>(alloc: Global, standing: &Standing) -> Result<Answer<'w>, NoMemory>
     ensures status { IfOk result (λ answer. status_of answer ≡ 0) }
     ensures text { IfOk result (λ answer.
@@ -46,7 +46,7 @@ fn listed<'w>(alloc: Global, standing: &Standing) -> Result<Answer<'w>, NoMemory
     Ok(Answer::Done(text))
 }
 
-// What is answered where nothing was rolled back.
+/// What is answered where nothing was rolled back.
 fn refusal<'w>(fault: RollbackFault) -> Result<Answer<'w>, NoMemory>
     ensures { result ≡ refusal_of fault }
 {

@@ -75,11 +75,10 @@ pub struct Ended {
 }
 
 /// Runs the program on its arguments: `list`, `format HW POS SERIAL BANK`, `show FILE` with the
-/// name of a file of one of the kinds of [`shown_files::ShownKind`], `check FOLDER`,
-/// `build RECIPE FOLDER`, `make NUMBER FOLDER`, `replay FOLDER SCRIPT`, `wire FOLDER SCRIPT`,
-/// `trial NUMBER` or `rollback`; `on N` for N from 1 to 8, and then the words of `list`, `format` or
-/// `rollback`; or `fleet COUNT FOLDER SCRIPT` for COUNT from 2 to 8. The output goes out in one
-/// piece at the end.
+/// name of a file of one of the kinds of [`shown_files::ShownKind`], `check FOLDER`, `build RECIPE
+/// FOLDER`, `make NUMBER FOLDER`, `replay FOLDER SCRIPT`, `wire FOLDER SCRIPT`, `trial NUMBER` or
+/// `rollback`; `on N` for N from 1 to 8, and then the words of `list`, `format` or `rollback`; or
+/// `fleet COUNT FOLDER SCRIPT` for COUNT from 2 to 8. The output goes out in one piece at the end.
 ///
 /// Each of the eight disks is a unit's. `on N` names that of unit N, `fleet COUNT` uses the first
 /// COUNT, and every other command the first. A disk that isn't used stays as it is.
@@ -101,13 +100,14 @@ pub fn run<H: Host, O: Sink, K: Power>(
 ) -> Ended
     requires eight { length disks.old ≡ 8 }
     requires running { All (λ disk. (K.state disk).stopped ≡ false) disks.old }
-    // Of the disk that the arguments name: the status with its cause, and exactly the text that goes
-    // out. Where neither host nor sink fails, `show` of a file that spells its fields, `check` of a
-    // set that can be read and has no finding, `build` of a recipe of which nothing is refused, and
-    // `make` succeed, but for out of memory; where neither sink nor disk fails, `list` of a disk that
-    // holds a configuration, `format`, `rollback` on a disk that holds a former configuration and
-    // has a sequence number left, and `trial` on a target that can take its set. After `build` and
-    // `make` with status 0 the folder has exactly their set, can be read and has no finding.
+    // Of the disk that the arguments name: the status with its cause, and exactly the text that
+    // goes out. Where neither host nor sink fails, `show` of a file that spells its fields, `check`
+    // of a set that can be read and has no finding, `build` of a recipe of which nothing is
+    // refused, and `make` succeed, but for out of memory; where neither sink nor disk fails, `list`
+    // of a disk that holds a configuration, `format`, `rollback` on a disk that holds a former
+    // configuration and has a sequence number left, and `trial` on a target that can take its set.
+    // After `build` and `make` with status 0 the folder has exactly their set, can be read and has
+    // no finding.
     ensures ends { OnNamed (texts_of words.now) disks.old disks.new
         (λ before after. EndsAsPromised (record {
           work = record {
@@ -125,10 +125,10 @@ pub fn run<H: Host, O: Sink, K: Power>(
           sink_faults = O.faults out.old;
           sink_faults_after = O.faults out.new;
         }) result) }
-    // Of a fleet, which has the first disks, one a unit: the status with its cause, exactly the text
-    // that goes out, and what is left of each of these disks. Where neither host nor sink fails, a
-    // script is run to its end on disks that hold configurations and fail no more often than they
-    // stop, but for out of memory.
+    // Of a fleet, which has the first disks, one a unit: the status with its cause, exactly the
+    // text that goes out, and what is left of each of these disks. Where neither host nor sink
+    // fails, a script is run to its end on disks that hold configurations and fail no more often
+    // than they stop, but for out of memory.
     ensures fleet { (count : ℕ) (folder script : List ℕ)
         → IsCommand (texts_of words.now) (fleet count folder script)
         → FleetEndsAsPromised K.state (record {
@@ -218,7 +218,7 @@ fn out_of_memory() -> Ended
     }
 }
 
-// Does what the arguments ask for.
+/// Does what the arguments ask for.
 fn answer<'w, H: Host, K: Power>(
     alloc: Global,
     words: &'w [String],
@@ -245,8 +245,8 @@ fn answer<'w, H: Host, K: Power>(
     }
 }
 
-// Does what a command asks for, of the disk at this place, for all arguments that are the command
-// and name it.
+/// Does what a command asks for, of the disk at this place, for all arguments that are the command
+/// and name it.
 fn answer_of_unit<'w, H: Host, K: Power>(
     alloc: Global,
     command: &Command<'w>,
@@ -265,7 +265,7 @@ fn answer_of_unit<'w, H: Host, K: Power>(
     answer_on(alloc, command, host, &mut disks[place])
 }
 
-// Runs a fleet of so many units, for all arguments that ask for it.
+/// Runs a fleet of so many units, for all arguments that ask for it.
 fn answer_of_fleet<'w, H: Host, K: Power>(
     alloc: Global,
     host: &mut H,
@@ -284,8 +284,8 @@ fn answer_of_fleet<'w, H: Host, K: Power>(
     replay_fleet(alloc, host, &mut disks[..count], folder, script)
 }
 
-// Does what a command asks for, of this disk; its clauses are those of [`run`], for all arguments
-// that are the command.
+/// Does what a command asks for, of this disk; its clauses are those of [`run`], for all arguments
+/// that are the command.
 fn answer_on<'w, H: Host, K: Power>(
     alloc: Global,
     command: &Command<'w>,
@@ -347,7 +347,7 @@ fn answer_on<'w, H: Host, K: Power>(
     }
 }
 
-// The answer of a command that runs no script.
+/// The answer of a command that runs no script.
 fn alone<'w>(answer: Result<Answer<'w>, NoMemory>) -> Result<Answered<'w>, NoMemory>
     ensures same { result ≡ answered_of answer.entry }
     ensures no_run { IfOk result (λ said. said.drive ≡ None) }
@@ -391,6 +391,7 @@ fn format_disk<'w, K: Disk>(
     ensures power { KeepsPower (K.state disk.old) (K.state disk.new) }
     ensures memory { OnErr result (RunsOut (K.state disk.old) (K.state disk.new)) }
 {
+    // For the proof: does nothing.
     an_unformatted_disk_is_as_it_was::<K>();
     // Made first: once the disk is written, memory may not be what is lacking for saying so.
     let line = formatted_text(alloc, identity)?;

@@ -65,7 +65,7 @@ pub(crate) fn trial<'w, K: Power>(
     }
 }
 
-// The generated set of a number, in memory.
+/// The generated set of a number, in memory.
 fn generated_set(alloc: Global, number: u32) -> Result<MediaSet, NoMemory>
     ensures { IfOk result (λ set. IsGeneratedSet number (set_view set)) }
 {
@@ -73,7 +73,7 @@ fn generated_set(alloc: Global, number: u32) -> Result<MediaSet, NoMemory>
     MediaSet::from_parts(alloc, built)
 }
 
-// What is run for a target.
+/// What is run for a target.
 fn script_for(alloc: Global, target: &Identity) -> Result<Script, NoMemory>
     ensures { IfOk result (λ script. script ≡ trial_script target.now) }
 {
@@ -82,12 +82,13 @@ fn script_for(alloc: Global, target: &Identity) -> Result<Script, NoMemory>
     Script::of_upload(alloc, target.hw, target.pos, parts)
 }
 
-// The part of the generated set's only load.
+/// The part of the generated set's only load.
 fn generated_part() -> PartText
     ensures { result ≡ codes "ABC41-0000-0001" }
 {
     match PartText::read(b"ABC41-0000-0001") {
         Ok(part) => part,
+        // These are fifteen graphic characters.
         Err(_) => unreachable!(),
     }
 }

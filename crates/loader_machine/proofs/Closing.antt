@@ -19,7 +19,7 @@ use Rattle.session_rules.specs.declared.outcome.SessionKind.TheVariants.{Info, U
 use Rattle.session_rules.specs.Buffers.{Buffer, buffer_size, buffered_more}
 use Rattle.session_rules.specs.Loader.{EndedSession, LoaderSession, Start, begin_with, begun, ended_by, listed_by, row_request, start_decision}
 use Rattle.session_rules.specs.LoaderRows.{LoaderRow, first_row}
-use Rattle.loader_machine.specs.Machine.{Does, LoaderState, asking, closed, with_end, with_ended, with_session}
+use Rattle.loader_machine.specs.Machine.{LoaderDoes, LoaderState, asking, closed, with_end, with_ended, with_session}
 
 abbrev pub state : SetView → EndView → Option LoaderSession → List EndedSession → LoaderState
 state set end live ended = record { set = set; view = record { end = end; live = live; ended = ended } }
@@ -63,12 +63,12 @@ module _ (st : LoaderState) (s : Start) where
   abbrev stopped : EndView
   stopped = view_after sides.Loader st.view.end Stops
 
-  no_port : (role : Option Role) → (role ≡ None → ⊥) → has_port st.view.end ≡ false → Does (begin_with st.view.end s role) st (with_ended (replacing stopped) (over s.kind)) []
+  no_port : (role : Option Role) → (role ≡ None → ⊥) → has_port st.view.end ≡ false → LoaderDoes (begin_with st.view.end s role) st (with_ended (replacing stopped) (over s.kind)) []
   no_port None asks none = absurd (asks refl)
   no_port (Some role) asks none = rw none (record { set = refl; keeps = refl; posts = refl })
 
   a_port : (role : Option Role) (asked : EndView) (sent : List DatagramView) → (role ≡ None → ⊥) → has_port st.view.end ≡ true → Makes sides.Loader (asking role) stopped asked sent
-      → Does (begin_with st.view.end s role) st (with_session (replacing asked) (Some (begun s))) sent
+      → LoaderDoes (begin_with st.view.end s role) st (with_session (replacing asked) (Some (begun s))) sent
   a_port None asked sent asks port makes = absurd (asks refl)
   a_port (Some role) asked sent asks port makes = rw port (record {
     set = refl;
@@ -80,7 +80,7 @@ module _ (st : LoaderState) (s : Start) where
   replaced idle mid i m = m ∙ ap (λ (x : LoaderState). closed x Replaced None) i ∙ replaces st.set stopped st.view.live st.view.ended
 
   pub starts_over : (idle mid after : LoaderState) (sent : List DatagramView) → idle ≡ with_end st stopped → mid ≡ closed idle Replaced None → has_port mid.view.end ≡ false
-      → after ≡ with_ended mid (over s.kind) → sent ≡ [] → Does (start_decision st.view.end s) st after sent
+      → after ≡ with_ended mid (over s.kind) → sent ≡ [] → LoaderDoes (start_decision st.view.end s) st after sent
   starts_over idle mid after sent i m none a p =
       let is = replaced idle mid i m in
       rw (p, a, is)
@@ -88,7 +88,7 @@ module _ (st : LoaderState) (s : Start) where
 
   pub starts : (row : LoaderRow) (idle mid asking_one after : LoaderState) (first sent : List DatagramView) → idle ≡ with_end st stopped → mid ≡ closed idle Replaced None → has_port mid.view.end ≡ true
       → row ≡ first_row s.kind → Makes sides.Loader (asking (row_request mid.view.end.asks_size s row)) mid.view.end asking_one.view.end first → asking_one ≡ with_end mid asking_one.view.end
-      → after ≡ with_session asking_one (Some (begun s)) → sent ≡ first ++ [] → Does (start_decision st.view.end s) st after sent
+      → after ≡ with_session asking_one (Some (begun s)) → sent ≡ first ++ [] → LoaderDoes (start_decision st.view.end s) st after sent
   starts row idle mid asking_one after first sent i m port r makes rest a p =
       let is = replaced idle mid i m in
       let whole : after ≡ with_session (replacing asking_one.view.end) (Some (begun s)) = a ∙ ap (λ (x : LoaderState). with_session x (Some (begun s))) (rest ∙ ap (λ (x : LoaderState). with_end x asking_one.view.end) is) in

@@ -10,7 +10,7 @@ use Rattle.load_protocol_files.specs.Lcl.{LclView}
 use Rattle.tftp_packet.specs.Packets.{PacketView}
 use Rattle.tftp_link.specs.Answers.{Answer, Dropped, Again, Grants, TakesBlock, TakesLast, Proceeds, Completes, Fails, NewsView, news_by}
 use Rattle.transfer_end.specs.Calls.{Makes, posted}
-use Rattle.transfer_end.specs.CallLaws.{KeepsPorts, posts_join, transfer_keeps, views_join}
+use Rattle.transfer_end.proofs.CallLemmas.{KeepsPorts, posts_join, transfer_keeps, views_join}
 use Rattle.transfer_end.specs.Moves.{Move, Asks, Repeats, Stops, all_posts, view_after, views_after}
 use Rattle.transfer_end.specs.Packets.{has_port, heard_answer, may_repeat, transfer_moves}
 use Rattle.transfer_end.specs.Transfers.{Role}
@@ -21,8 +21,8 @@ use Rattle.session_rules.specs.declared.outcome.SessionKind.{SessionKind}
 use Rattle.session_rules.specs.declared.outcome.SessionKind.TheVariants.{Info, Upload}
 use Rattle.session_rules.specs.Buffers.{Buffer, buffer_size, buffered_more}
 use Rattle.session_rules.specs.Loader.{Advances, EndedSession, Ends, LoaderDecision, LoaderSession, LoaderView, Start, advanced, answer_decision, continued, doing, ended_by, listed_by, loader_changed, next_decision, row_request, session_decision, tick_decision, turn_decision}
-use Rattle.session_rules.specs.LoaderRows.{LoaderRow, Comes_to, Goes_on, Reads_lci, Takes_lcs, Takes_lcl, Reads_lui, Takes_lus, Writes_lur, Serves_files, Turn, file_turn, row_after}
-use Rattle.loader_machine.specs.Machine.{Does, LoaderState, asking, closed, following, is_asking, is_row_of, media_of, with_end, with_session}
+use Rattle.session_rules.specs.LoaderRows.{LoaderRow, Comes_to, Goes_on, Reads_lci, Takes_lcs, Takes_lcl, Reads_lui, Takes_lus, Writes_lur, Serves_files, RowTurn, file_turn, row_after}
+use Rattle.loader_machine.specs.Machine.{LoaderDoes, LoaderState, asking, closed, following, is_asking, is_row_of, media_of, with_end, with_session}
 use Rattle.loader_machine.proofs.Closing.{buffered_nothing, closes, state}
 
 -- ---- nothing more of a file
@@ -38,15 +38,15 @@ continued_same None = refl
 continued_same (Some s) = rw (buffered_same s.arriving) refl
 
 -- these moves, and no change of the session
-pub does_moves : (st : LoaderState) (moves : List Move) (end : EndView) (posts : List DatagramView) → Makes sides.Loader moves st.view.end end posts → Does (doing moves) st (with_end st end) posts
+pub does_moves : (st : LoaderState) (moves : List Move) (end : EndView) (posts : List DatagramView) → Makes sides.Loader moves st.view.end end posts → LoaderDoes (doing moves) st (with_end st end) posts
 does_moves st moves end posts makes = record {
   set = refl;
   keeps = rw (continued_same st.view.live) (ap (λ (x : EndView). record { end = x; live = st.view.live; ended = st.view.ended }) makes.keeps);
   posts = makes.posts;
 }
 
-pub does_so : (st now : LoaderState) (moves : List Move) (end : EndView) (posts : List DatagramView) → st ≡ now → Makes sides.Loader moves st.view.end end posts → Does (doing moves) now (with_end st end) posts
-does_so st now moves end posts same makes = subst (λ x. Does (doing moves) x (with_end st end) posts) same (does_moves st moves end posts makes)
+pub does_so : (st now : LoaderState) (moves : List Move) (end : EndView) (posts : List DatagramView) → st ≡ now → Makes sides.Loader moves st.view.end end posts → LoaderDoes (doing moves) now (with_end st end) posts
+does_so st now moves end posts same makes = subst (λ x. LoaderDoes (doing moves) x (with_end st end) posts) same (does_moves st moves end posts makes)
 
 -- ---- rows
 
@@ -86,7 +86,7 @@ module _ (now after : LoaderState) (s : LoaderSession) where
 
   -- the session enters its next row
   pub enters : (posts : List DatagramView) → (is_asking (row_after s.row) ≡ true → has_port now.view.end ≡ true) → Makes sides.Loader (asking asked) now.view.end after.view.end posts
-      → after ≡ with_session (with_end now after.view.end) (advanced now.view.live) → Does (turn_decision now.view.end s [] [] Goes_on) now after posts
+      → after ≡ with_session (with_end now after.view.end) (advanced now.view.live) → LoaderDoes (turn_decision now.view.end s [] [] Goes_on) now after posts
   enters posts port makes rest =
       rw (goes_next now.view.end asked (λ is. port (sym (asks_so now.view.end.asks_size s.start (row_after s.row)) ∙ is)))
       (record {
@@ -97,7 +97,7 @@ module _ (now after : LoaderState) (s : LoaderSession) where
 
   -- or comes to its end
   pub comes_to : (outcome : Outcome) (listed : Option LclView) (idle : LoaderState) → now.view.live ≡ Some s → listed ≡ listed_by s.start.kind outcome s.arriving.prefix
-      → idle ≡ with_end now (view_after sides.Loader now.view.end Stops) → after ≡ closed idle outcome listed → Does (turn_decision now.view.end s [] [] (Comes_to outcome)) now after []
+      → idle ≡ with_end now (view_after sides.Loader now.view.end Stops) → after ≡ closed idle outcome listed → LoaderDoes (turn_decision now.view.end s [] [] (Comes_to outcome)) now after []
   comes_to outcome listed idle live l i a =
       let stopped = view_after sides.Loader now.view.end Stops in
       let over : after ≡ state now.set stopped None (ended_by outcome [] now.view.live now.view.ended) =
@@ -133,20 +133,20 @@ module _ (v : EndView) (s : LoaderSession) (payload : List ℕ) (ended : List En
   next_so None = record { moves = refl; kept = refl }
   next_so (Some role) = asked_so role (has_port v)
 
-  pub turns_so : (turn : Turn) → AreOne (turn_decision v whole [] [] turn) (turn_decision v s [] payload turn)
+  pub turns_so : (turn : RowTurn) → AreOne (turn_decision v whole [] [] turn) (turn_decision v s [] payload turn)
   turns_so Goes_on = next_so (row_request v.asks_size s.start (row_after s.row))
   turns_so (Comes_to outcome) = ends_so outcome
 
 -- what the last bytes of a file come to
-pub takes_last : (now mid after : LoaderState) (s : LoaderSession) (payload : List ℕ) (turn : Turn) (posts : List DatagramView) → now.view.live ≡ Some s
+pub takes_last : (now mid after : LoaderState) (s : LoaderSession) (payload : List ℕ) (turn : RowTurn) (posts : List DatagramView) → now.view.live ≡ Some s
     → mid ≡ with_session now (continued now.view.live payload) → turn ≡ file_turn s.row (buffered_more s.arriving payload)
-    → ((t : LoaderSession) → mid.view.live ≡ Some t → Does (turn_decision mid.view.end t [] [] turn) mid after posts)
-    → Does (turn_decision now.view.end s [] payload (file_turn s.row (buffered_more s.arriving payload))) now after posts
+    → ((t : LoaderSession) → mid.view.live ≡ Some t → LoaderDoes (turn_decision mid.view.end t [] [] turn) mid after posts)
+    → LoaderDoes (turn_decision now.view.end s [] payload (file_turn s.row (buffered_more s.arriving payload))) now after posts
 takes_last now mid after s payload turn posts live m t does =
     let taken : mid ≡ state now.set now.view.end (Some (whole now.view.end s payload now.view.ended)) now.view.ended = m ∙ ap (λ x. with_session now (continued x payload)) live in
-    let done = subst (λ (x : LoaderState). Does (turn_decision x.view.end (whole now.view.end s payload now.view.ended) [] [] turn) x after posts) taken (does (whole now.view.end s payload now.view.ended) (ap (λ (x : LoaderState). x.view.live) taken)) in
+    let done = subst (λ (x : LoaderState). LoaderDoes (turn_decision x.view.end (whole now.view.end s payload now.view.ended) [] [] turn) x after posts) taken (does (whole now.view.end s payload now.view.ended) (ap (λ (x : LoaderState). x.view.live) taken)) in
     let same = turns_so now.view.end s payload now.view.ended turn in
-    subst (λ x. Does (turn_decision now.view.end s [] payload x) now after posts) t
+    subst (λ x. LoaderDoes (turn_decision now.view.end s [] payload x) now after posts) t
     (record {
       set = done.set;
       keeps = done.keeps ∙ same.kept ∙ ap (λ x. kept now.view.end s payload now.view.ended x (turn_decision now.view.end s [] payload turn)) (sym live);
@@ -174,7 +174,7 @@ module _ (v end : EndView) (heard : List Move) (keeps : KeepsPorts v end) where
   next_after None more = record { moves = sym (append-nil heard); change = refl }
   next_after (Some role) more = rw same_port (asked_after role more (has_port v))
 
-  turn_after : (s : LoaderSession) (more : List ℕ) (turn : Turn) → Continues_with heard (turn_decision v s heard more turn) (turn_decision end s [] more turn)
+  turn_after : (s : LoaderSession) (more : List ℕ) (turn : RowTurn) → Continues_with heard (turn_decision v s heard more turn) (turn_decision end s [] more turn)
   turn_after s more Goes_on = rw keeps.asks_size (next_after (row_request v.asks_size s.start (row_after s.row)) more)
   turn_after s more (Comes_to outcome) = record { moves = refl; change = refl }
 
@@ -190,7 +190,7 @@ module _ (v end : EndView) (heard : List Move) (keeps : KeepsPorts v end) where
 
 -- what is done after the moves of a packet, and with them
 pub does_both : (st : LoaderState) (heard : List Move) (end : EndView) (whole rest : LoaderDecision) (after : LoaderState) (first second : List DatagramView)
-    → Makes sides.Loader heard st.view.end end first → Continues_with heard whole rest → Does rest (with_end st end) after second → Does whole st after (first ++ second)
+    → Makes sides.Loader heard st.view.end end first → Continues_with heard whole rest → LoaderDoes rest (with_end st end) after second → LoaderDoes whole st after (first ++ second)
 does_both st heard end whole rest after first second makes both does = record {
   set = does.set;
   keeps = does.keeps
@@ -208,9 +208,9 @@ ticks_live v None is may = absurd cc
 ticks_live v (Some s) is may = rw may refl
 
 pub ticks : (st now : LoaderState) (end : EndView) (first sent : List DatagramView) → st ≡ now → is_none st.view.live ≡ false → may_repeat st.view.end ≡ true
-    → Makes sides.Loader (Repeats ∷ []) st.view.end end first → sent ≡ first ++ [] → Does (tick_decision now.view.end now.view.live) now (with_end st end) sent
+    → Makes sides.Loader (Repeats ∷ []) st.view.end end first → sent ≡ first ++ [] → LoaderDoes (tick_decision now.view.end now.view.live) now (with_end st end) sent
 ticks st now end first sent same is may makes p =
-    subst (λ (x : LoaderState). Does (tick_decision x.view.end x.view.live) x (with_end st end) sent) same
+    subst (λ (x : LoaderState). LoaderDoes (tick_decision x.view.end x.view.live) x (with_end st end) sent) same
     (rw (ticks_live st.view.end st.view.live is may, p ∙ append-nil first) (does_moves st (Repeats ∷ []) end first makes))
 
 pub port_so : (st now : LoaderState) (s : LoaderSession) (row : LoaderRow) → st ≡ now → st.view.live ≡ Some s → row ≡ row_after s.row
@@ -221,15 +221,15 @@ port_so st now s row same live r port is =
 pub advances : (now after : LoaderState) (s : LoaderSession) (result : Result (Option Datagram) NoMemory) → now.view.live ≡ Some s → (is_asking (row_after s.row) ≡ true → has_port now.view.end ≡ true)
     → IfOk result (λ post. Makes sides.Loader (asking (row_request now.view.end.asks_size s.start (row_after s.row))) now.view.end after.view.end (posted post))
     → OnOk result (after ≡ with_session (with_end now after.view.end) (advanced now.view.live))
-    → IfOk result (λ post. Does (turn_decision now.view.end s [] [] Goes_on) now after (posted post))
+    → IfOk result (λ post. LoaderDoes (turn_decision now.view.end s [] [] Goes_on) now after (posted post))
 advances now after s (Ok post) live port makes rest = enters now after s (posted post) port makes rest
 advances now after s (Err e) live port makes rest = tt
 
-pub ends_with_last : (now mid after : LoaderState) (s : LoaderSession) (payload : List ℕ) (turn : Turn) (result : Result (Option Datagram) NoMemory) → now.view.live ≡ Some s
+pub ends_with_last : (now mid after : LoaderState) (s : LoaderSession) (payload : List ℕ) (turn : RowTurn) (result : Result (Option Datagram) NoMemory) → now.view.live ≡ Some s
     → mid ≡ with_session now (continued now.view.live payload)
     → ((t : LoaderSession) → mid.view.live ≡ Some t → turn ≡ file_turn t.row t.arriving)
-    → ((t : LoaderSession) → mid.view.live ≡ Some t → IfOk result (λ post. Does (turn_decision mid.view.end t [] [] turn) mid after (posted post)))
-    → IfOk result (λ post. Does (turn_decision now.view.end s [] payload (file_turn s.row (buffered_more s.arriving payload))) now after (posted post))
+    → ((t : LoaderSession) → mid.view.live ≡ Some t → IfOk result (λ post. LoaderDoes (turn_decision mid.view.end t [] [] turn) mid after (posted post)))
+    → IfOk result (λ post. LoaderDoes (turn_decision now.view.end s [] payload (file_turn s.row (buffered_more s.arriving payload))) now after (posted post))
 ends_with_last now mid after s payload turn (Err e) live m t does = tt
 ends_with_last now mid after s payload turn (Ok post) live m t does =
     takes_last now mid after s payload turn (posted post) live m
@@ -238,8 +238,8 @@ ends_with_last now mid after s payload turn (Ok post) live m t does =
 -- a packet of a transfer, in a session or in none
 transfers : (st : LoaderState) (from to : ℕ) (p : PacketView) (end : EndView) (live : Option LoaderSession) (news : NewsView) (after : LoaderState) (first second : List DatagramView)
     → st.view.live ≡ live → (to == 59) ≡ false → Makes sides.Loader (transfer_moves st.view.end from to p) st.view.end end first → news ≡ news_by (heard_answer st.view.end from to p)
-    → ((s : LoaderSession) → live ≡ Some s → Does (following end s news) (with_end st end) after second) → (live ≡ None → (second ≡ []) × (after ≡ with_end st end))
-    → Does (session_decision (media_of st.set) st.view.end live from to p) st after (first ++ second)
+    → ((s : LoaderSession) → live ≡ Some s → LoaderDoes (following end s news) (with_end st end) after second) → (live ≡ None → (second ≡ []) × (after ≡ with_end st end))
+    → LoaderDoes (session_decision (media_of st.set) st.view.end live from to p) st after (first ++ second)
 transfers st from to p end None news after first second is port makes n does idle =
     let (none, same) = idle refl in
     rw (port, none, append-nil first, same) (does_moves st (transfer_moves st.view.end from to p) end first makes)
@@ -248,12 +248,12 @@ transfers st from to p end (Some s) news after first second is port makes n does
     rw port
     (does_both st (transfer_moves st.view.end from to p) end _ _ after first second makes
     (answer_after st.view.end end (transfer_moves st.view.end from to p) kept s (heard_answer st.view.end from to p))
-    (subst (λ x. Does (following end s x) (with_end st end) after second) n (does s refl)))
+    (subst (λ x. LoaderDoes (following end s x) (with_end st end) after second) n (does s refl)))
 
 pub hears : (st now : LoaderState) (from to : ℕ) (p : PacketView) (end : EndView) (news : NewsView) (after : LoaderState) (first second sent : List DatagramView)
     → st ≡ now → (to == 59) ≡ false → Makes sides.Loader (transfer_moves st.view.end from to p) st.view.end end first → news ≡ news_by (heard_answer st.view.end from to p)
-    → ((s : LoaderSession) → st.view.live ≡ Some s → Does (following end s news) (with_end st end) after second) → (st.view.live ≡ None → (second ≡ []) × (after ≡ with_end st end))
-    → sent ≡ first ++ second → Does (session_decision (media_of now.set) now.view.end now.view.live from to p) now after sent
+    → ((s : LoaderSession) → st.view.live ≡ Some s → LoaderDoes (following end s news) (with_end st end) after second) → (st.view.live ≡ None → (second ≡ []) × (after ≡ with_end st end))
+    → sent ≡ first ++ second → LoaderDoes (session_decision (media_of now.set) now.view.end now.view.live from to p) now after sent
 hears st now from to p end news after first second sent same port makes n does idle q =
-    subst (λ (x : LoaderState). Does (session_decision (media_of x.set) x.view.end x.view.live from to p) x after sent) same
+    subst (λ (x : LoaderState). LoaderDoes (session_decision (media_of x.set) x.view.end x.view.live from to p) x after sent) same
     (rw q (transfers st from to p end st.view.live news after first second refl port makes n does idle))

@@ -6,11 +6,11 @@ use Rattle.load_protocol_files.specs.declared.fault.FileFault.TheVariants.{Memor
 use Rattle.session_rules.specs.declared.outcome.FileKind.{FileKind}
 use Rattle.session_rules.specs.LoaderRows as rules
 use Rattle.session_rules.specs.declared.outcome.SessionKind.TheVariants.{Info}
-use Rattle.session_rules.specs.LoaderRows.{Comes_to, Goes_on, Serves_files, Takes_lcl, bad_file, fault_offset}
+use Rattle.session_rules.specs.LoaderRows.{bad_file, fault_offset}
 use Rattle.loader_machine.specs.declared.turn.Turn.{Turn}
 use Rattle.loader_machine.specs.Machine.{ListsNothing, listed_at, listed_in, turn_seen}
 
-pub unread_is : {A : Type 0} (turn_of : Result A FileFault → rules.Turn) (read : Result A FileFault) (fault : FileFault) (kind : FileKind) (result : Result Turn NoMemory)
+pub unread_is : {A : Type 0} (turn_of : Result A FileFault → rules.RowTurn) (read : Result A FileFault) (fault : FileFault) (kind : FileKind) (result : Result Turn NoMemory)
     → ((f : FileFault) → turn_of (Err f) ≡ bad_file kind (fault_offset f)) → (fault ≡ Memory) ⊎ (read ≡ Err fault)
     → IfOk result (λ turn. turn_seen turn ≡ bad_file kind (fault_offset fault)) → OnOk result (fault ≢ Memory) → IfOk result (λ turn. turn_seen turn ≡ turn_of read)
 unread_is turn_of read fault kind (Err e) refused found is kept = tt

@@ -22,7 +22,7 @@ use Rattle.session_rules.specs.Buffers.{buffered_more}
 use Rattle.session_rules.specs.FileNames.{file_name}
 use Rattle.session_rules.specs.Loader as rules
 use Rattle.session_rules.specs.Loader.{EndedSession, LoaderDecision, LoaderSession, LoaderView, Continues, listed_by, loader_changed, loader_decision, nothing, read_decision, take_request, turn_decision}
-use Rattle.session_rules.specs.LoaderRows.{LoaderRow, Reads_lci, Takes_lcs, Takes_lcl, Reads_lui, Takes_lus, Writes_lur, Serves_files, Turn, Goes_on, Comes_to, file_turn, kind_taken, serves_files}
+use Rattle.session_rules.specs.LoaderRows.{LoaderRow, Reads_lci, Takes_lcs, Takes_lcl, Reads_lui, Takes_lus, Writes_lur, Serves_files, RowTurn, Goes_on, Comes_to, file_turn, kind_taken, serves_files}
 use Rattle.session_rules.specs.MediaFiles.{Media}
 use Rattle.loader_machine.specs.declared.requested.Requested.{Requested}
 use Rattle.loader_machine.specs.declared.requested.Requested.TheVariants as requested
@@ -112,18 +112,18 @@ pub record LoaderState : Type 0 where
   pub view : LoaderView
 
 -- A call does what is decided: what the loader keeps then, and all that it posts.
-pub record Does (decision : LoaderDecision) (before after : LoaderState) (sent : List DatagramView) : Type 0 where
+pub record LoaderDoes (decision : LoaderDecision) (before after : LoaderState) (sent : List DatagramView) : Type 0 where
   pub set : after.set ≡ before.set
   pub keeps : after.view ≡ loader_changed (views_after sides.Loader before.view.end decision.moves) before.view decision.change
   pub posts : sent ≡ all_posts sides.Loader before.view.end decision.moves
 
 -- A call takes an event: it does what the loader's rules decide then.
-abbrev pub Takes : Event → (before after : LoaderState) → List DatagramView → Type 0
-Takes e before after sent = Does (loader_decision (media_of before.set) before.view e) before after sent
+abbrev pub LoaderTakesEvent : Event → (before after : LoaderState) → List DatagramView → Type 0
+LoaderTakesEvent e before after sent = LoaderDoes (loader_decision (media_of before.set) before.view e) before after sent
 
 -- ---- files that arrived
 
-abbrev pub turn_seen : declared_turn.Turn → Turn
+abbrev pub turn_seen : declared_turn.Turn → RowTurn
 turn_seen turns.GoesOn = Goes_on
 turn_seen (turns.ComesTo outcome listed) = Comes_to outcome
 
@@ -133,7 +133,7 @@ listed_in turns.GoesOn = None
 listed_in (turns.ComesTo outcome listed) = option_map lcl_view listed
 
 -- what a session of this operation lists that comes to this with a file of these bytes
-abbrev pub listed_at : SessionKind → Turn → List ℕ → Option LclView
+abbrev pub listed_at : SessionKind → RowTurn → List ℕ → Option LclView
 listed_at kind Goes_on bytes = None
 listed_at kind (Comes_to outcome) bytes = listed_by kind outcome bytes
 
@@ -188,9 +188,9 @@ abbrev pub IsUnlisted : Outcome → Type 0
 IsUnlisted outcome = (kind : SessionKind) (bytes : List ℕ) → listed_by kind outcome bytes ≡ None
 
 -- whether a request from this port is taken: then nothing has happened yet, and else all has that the request brings
-abbrev pub Serving : (taken : Bool) → (from : ℕ) → (before after : LoaderState) → Type 0
-Serving true from before after = (after ≡ before) × (is_fresh before.view.end from ≡ true) × (has_port before.view.end ≡ true)
-Serving false from before after = (role : Role) → Does (take_request before.view.end from role) before after []
+abbrev pub LoaderServes : (taken : Bool) → (from : ℕ) → (before after : LoaderState) → Type 0
+LoaderServes true from before after = (after ≡ before) × (is_fresh before.view.end from ≡ true) × (has_port before.view.end ≡ true)
+LoaderServes false from before after = (role : Role) → LoaderDoes (take_request before.view.end from role) before after []
 
 -- the row takes a file of this name
 abbrev pub awaits_file : LoaderSession → (name : List ℕ) → Bool

@@ -1,6 +1,6 @@
 //! The loader.
 ghost use Rattle.std.specs.Option.{ForSome};
-ghost use Rattle.std.specs.Prelude.{◌≡◌, ◌≤◌, ◌∷◌, [], length, true, None, Some, IfOk, OnOk};
+ghost use Rattle.std.specs.Prelude.{◌≡◌, ◌∷◌, [], length, true, None, Some, IfOk, OnOk};
 ghost use Rattle.std.specs.Prelude.{is_some, map, option_map, false, ◌==◌};
 ghost use Rattle.exchange_trace.specs.declared.trace.Side.TheVariants as sides;
 ghost use Rattle.exchange_trace.specs.Logs.{Gets, Learns, Starts_info, Starts_upload};
@@ -23,7 +23,8 @@ ghost use Rattle.session_rules.specs.Loader.{turn_decision, write_decision};
 ghost use Rattle.session_rules.specs.LoaderRows.{Goes_on, file_turn, kind_taken, row_after};
 ghost use Rattle.session_rules.specs.LoaderRows.{serves_files};
 ghost use Rattle.session_rules.specs.Reports.{lur_file};
-ghost use Rattle.loader_machine.specs.Machine.{Does, IsUnlisted, Serving, Takes, all_sessions};
+ghost use Rattle.loader_machine.specs.Machine.{LoaderDoes, IsUnlisted, LoaderServes};
+ghost use Rattle.loader_machine.specs.Machine.{LoaderTakesEvent, all_sessions};
 ghost use Rattle.loader_machine.specs.Machine.{asking, session_view};
 ghost use Rattle.loader_machine.specs.Machine.{awaits_file, closed, reading};
 ghost use Rattle.loader_machine.specs.Machine.{following, is_asking, listed_at, listed_in};
@@ -48,7 +49,7 @@ use tftp_packet::{Options, Packet};
 use transfer_end::{Heard, Posts, REQUEST_PORT, TransferEnd, packet_in};
 
 /// The most parts of an upload.
-const MOST_PARTS: usize = 32;
+const MOST_PARTS_OF_AN_UPLOAD: usize = 32;
 
 /// The data loader. After a call that was out of memory it isn't used again.
 #[derive(Drop)]
@@ -97,7 +98,7 @@ impl<'m> Loader<'m> {
     /// Starts an information session with the target of this hardware and position. A live session
     /// is replaced.
     pub fn start_info(&mut self, hw: Ident, pos: Ident) -> Result<Posts, NoMemory>
-        ensures { IfOk result (λ posts. Takes (Starts_info hw pos)
+        ensures { IfOk result (λ posts. LoaderTakesEvent (Starts_info hw pos)
             self.old self.new (posts_view posts)) }
     {
         self.start(Start {
@@ -119,10 +120,10 @@ impl<'m> Loader<'m> {
         pos: Ident,
         parts: &[PartText],
     ) -> Result<Posts, NoMemory>
-        ensures { IfOk result (λ posts. Takes (Starts_upload hw pos parts.now)
+        ensures { IfOk result (λ posts. LoaderTakesEvent (Starts_upload hw pos parts.now)
             self.old self.new (posts_view posts)) }
     {
-        if parts.len() > MOST_PARTS {
+        if parts.len() > MOST_PARTS_OF_AN_UPLOAD {
             return self.refuse_upload(Outcome::TooMany);
         }
         match request_for(self.alloc, entries_of(self.media), parts)? {
@@ -138,7 +139,7 @@ impl<'m> Loader<'m> {
 
     /// An upload is over as soon as it began.
     fn refuse_upload(&mut self, outcome: Outcome) -> Result<Posts, NoMemory>
-        ensures { IfOk result (λ posts. Does (refused_upload outcome)
+        ensures { IfOk result (λ posts. LoaderDoes (refused_upload outcome)
             self.old self.new (posts_view posts)) }
     {
         self.stop();
@@ -149,7 +150,7 @@ impl<'m> Loader<'m> {
 
     /// A datagram comes, between these ports. One that spells no packet is dropped.
     pub fn on_datagram(&mut self, from: u16, to: u16, bytes: &[u8]) -> Result<Posts, NoMemory>
-        ensures { IfOk result (λ posts. Takes (Gets from to bytes.now)
+        ensures { IfOk result (λ posts. LoaderTakesEvent (Gets from to bytes.now)
             self.old self.new (posts_view posts)) }
     {
         let packet = packet_in(bytes);
@@ -163,7 +164,8 @@ impl<'m> Loader<'m> {
     /// The loader's timer expires. A live session posts once more what it posted last, and gives up
     /// after five retries.
     pub fn on_tick(&mut self) -> Result<Posts, NoMemory>
-        ensures { IfOk result (λ posts. Takes Ticks self.old self.new (posts_view posts)) }
+        ensures { IfOk result (λ posts. LoaderTakesEvent Ticks self.old self.new
+            (posts_view posts)) }
     {
         if self.live.is_none() {
             return Ok(Posts::none());
@@ -178,7 +180,7 @@ impl<'m> Loader<'m> {
 
     /// From now on requests ask for this block size, or for none.
     pub fn ask_blocks(&mut self, size: Option<u16>)
-        ensures { Takes (Learns size) self.old self.new [] }
+        ensures { LoaderTakesEvent (Learns size) self.old self.new [] }
     {
         self.end.ask_size(size);
     }
@@ -192,7 +194,7 @@ impl<'m> Loader<'m> {
 
     /// A session begins with its first request, if a port is left. A live one is replaced.
     fn start(&mut self, start: Start) -> Result<Posts, NoMemory>
-        ensures { IfOk result (λ posts. Does
+        ensures { IfOk result (λ posts. LoaderDoes
             (start_decision self.old.view.end (start_view start))
             self.old self.new (posts_view posts)) }
     {
@@ -298,7 +300,7 @@ impl<'m> Loader<'m> {
     /// The live session ends without a list.
     fn end_session(&mut self, outcome: Outcome) -> Result<(), NoMemory>
         requires { IsUnlisted outcome }
-        ensures { OnOk result (Does (ending outcome) self.old self.new []) }
+        ensures { OnOk result (LoaderDoes (ending outcome) self.old self.new []) }
     {
         self.stop();
         self.close(outcome, None)
@@ -307,7 +309,7 @@ impl<'m> Loader<'m> {
     /// A packet comes to port 59. It is dropped unless a session is live and no transfer is.
     fn on_request(&mut self, from: u16, packet: &Packet<'_>) -> Result<Posts, NoMemory>
         requires { IsInRange (packet_view packet.now) }
-        ensures { IfOk result (λ posts. Does (session_decision (media_of self.old.set)
+        ensures { IfOk result (λ posts. LoaderDoes (session_decision (media_of self.old.set)
             self.old.view.end self.old.view.live from 59 (packet_view packet.now))
             self.old self.new (posts_view posts)) }
     {
@@ -325,7 +327,7 @@ impl<'m> Loader<'m> {
     /// hold is refused.
     fn give(&mut self, from: u16, name: &Name, options: Options) -> Result<Posts, NoMemory>
         requires { AreInRange options }
-        ensures { ForSome self.old.view.live (λ s. IfOk result (λ posts. Does
+        ensures { ForSome self.old.view.live (λ s. IfOk result (λ posts. LoaderDoes
             (reading (media_of self.old.set) self.old.view.end s from name.now options)
             self.old self.new (posts_view posts))) }
     {
@@ -358,7 +360,7 @@ impl<'m> Loader<'m> {
     /// A request to write a file, which is taken if the row takes one of this name.
     fn accept(&mut self, from: u16, name: &Name, options: Options) -> Result<Posts, NoMemory>
         requires { AreInRange options }
-        ensures { ForSome self.old.view.live (λ s. IfOk result (λ posts. Does
+        ensures { ForSome self.old.view.live (λ s. IfOk result (λ posts. LoaderDoes
             (write_decision self.old.view.end s.start from name.now options (kind_taken s.row))
             self.old self.new (posts_view posts))) }
     {
@@ -390,7 +392,7 @@ impl<'m> Loader<'m> {
     /// Whether a request from this port is taken now. Only one from a fresh port is, and where no
     /// port is left for its transfer the session ends.
     fn may_serve(&mut self, from: u16) -> Result<bool, NoMemory>
-        ensures { IfOk result (λ taken. Serving taken from self.old self.new) }
+        ensures { IfOk result (λ taken. LoaderServes taken from self.old self.new) }
     {
         if !self.end.is_fresh(from) {
             return Ok(false);
@@ -406,7 +408,7 @@ impl<'m> Loader<'m> {
     fn on_transfer(&mut self, from: u16, to: u16, packet: &Packet<'_>) -> Result<Posts, NoMemory>
         requires in_range { IsInRange (packet_view packet.now) }
         requires port { (to == 59) ≡ false }
-        ensures { IfOk result (λ posts. Does (session_decision (media_of self.old.set)
+        ensures { IfOk result (λ posts. LoaderDoes (session_decision (media_of self.old.set)
             self.old.view.end self.old.view.live from to (packet_view packet.now))
             self.old self.new (posts_view posts)) }
     {
@@ -417,7 +419,7 @@ impl<'m> Loader<'m> {
 
     /// What follows from the news of the live transfer.
     fn follow(&mut self, news: &News<'_>) -> Result<Option<Datagram>, NoMemory>
-        ensures session { ForSome self.old.view.live (λ s. IfOk result (λ post. Does
+        ensures session { ForSome self.old.view.live (λ s. IfOk result (λ post. LoaderDoes
             (following self.old.view.end s (news_view news.now))
             self.old self.new (posted post))) }
         ensures idle { self.old.view.live ≡ None → IfOk result (λ post.
@@ -467,7 +469,7 @@ impl<'m> Loader<'m> {
     fn turn(&mut self, turn: Turn) -> Result<Option<Datagram>, NoMemory>
         requires { ForSome self.old.view.live (λ s.
             listed_in turn ≡ listed_at s.start.kind (turn_seen turn) s.arriving.prefix) }
-        ensures session { ForSome self.old.view.live (λ s. IfOk result (λ post. Does
+        ensures session { ForSome self.old.view.live (λ s. IfOk result (λ post. LoaderDoes
             (turn_decision self.old.view.end s [] [] (turn_seen turn))
             self.old self.new (posted post))) }
         ensures idle { self.old.view.live ≡ None → IfOk result (λ post.
@@ -488,7 +490,7 @@ impl<'m> Loader<'m> {
 
     /// The live session goes on to its next row, if a port is left for a request.
     fn advance(&mut self) -> Result<Option<Datagram>, NoMemory>
-        ensures { ForSome self.old.view.live (λ s. IfOk result (λ post. Does
+        ensures { ForSome self.old.view.live (λ s. IfOk result (λ post. LoaderDoes
             (turn_decision self.old.view.end s [] [] Goes_on)
             self.old self.new (posted post))) }
     {

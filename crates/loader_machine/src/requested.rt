@@ -1,5 +1,5 @@
 //! The loads of the media set that an upload asks for.
-ghost use Rattle.std.specs.Prelude.{◌≡◌, ◌≤◌, length, option_map, IfOk, OnOk};
+ghost use Rattle.std.specs.Prelude.{◌≡◌, ◌≤◌, length, IfOk};
 ghost use Rattle.session_rules.specs.MediaFiles.{entry_with, wanted_of};
 ghost use Rattle.media_check.specs.Sets.{set_view};
 ghost use Rattle.media_lists.specs.Loads.{load_entry_view};

@@ -1,13 +1,12 @@
 //! What a file that arrived comes to.
 ghost use Rattle.std.specs.Prelude.{◌≡◌, ◌≢◌, None, true, IfOk, OnOk};
-ghost use Rattle.field_grammar.specs.Answers.{answer};
 ghost use Rattle.load_protocol_files.specs.declared.fault.FileFault.TheVariants.{Memory};
-ghost use Rattle.load_protocol_files.specs.Lcl.{lcl, lcl_view};
-ghost use Rattle.session_rules.specs.LoaderRows.{Comes_to, Goes_on, Reads_lci, Reads_lui};
+ghost use Rattle.load_protocol_files.specs.Lcl.{lcl};
+ghost use Rattle.session_rules.specs.LoaderRows.{Comes_to, Reads_lci, Reads_lui};
 ghost use Rattle.session_rules.specs.LoaderRows.{Serves_files};
 ghost use Rattle.session_rules.specs.LoaderRows.{Takes_lcl, Takes_lcs, Takes_lus, answered};
 ghost use Rattle.session_rules.specs.LoaderRows.{bad_file, bytes_turn, fault_offset, file_turn};
-ghost use Rattle.session_rules.specs.LoaderRows.{lcl_turn, reported};
+ghost use Rattle.session_rules.specs.LoaderRows.{reported};
 ghost use Rattle.loader_machine.specs.Machine.{ListsNothing, is_row_of, listed_at, listed_in};
 ghost use Rattle.loader_machine.specs.Machine.{row_seen, turn_seen};
 ghost use Rattle.session_rules.specs.declared.outcome.SessionKind.{SessionKind};

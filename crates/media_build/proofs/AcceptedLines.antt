@@ -11,13 +11,13 @@ use Rattle.load_base.specs.Ident.{IsIdent}
 use Rattle.load_base.specs.Name.{IsName}
 use Rattle.load_base.specs.PartText.{is_graphic}
 use Rattle.load_base.specs.Verdicts.{name_fault_of, ident_fault_of}
-use Rattle.load_base.specs.VerdictLaws.{accepted, name_faults, ident_faults}
+use Rattle.load_base.proofs.VerdictLemmas.{accepted, name_faults, ident_faults}
 use Rattle.part_number.specs.PartNumber.{IsPartNumberText}
 use Rattle.part_number.specs.Verdicts.{part_fault_of}
-use Rattle.part_number.specs.VerdictLaws.{part_faults}
-use Rattle.field_grammar.specs.StepLaws.{then_ok}
+use Rattle.part_number.proofs.VerdictLemmas.{part_faults}
+use Rattle.field_grammar.proofs.StepLemmas.{then_ok}
 use Rattle.exchange_trace.specs.Scripts.{decimal_between, is_decimal}
-use Rattle.media_build.specs.Accepted.{IsWord, IsMemberOf, IsLoadLine, IsFileLine, IsUserLine, IsBatchLine, IsTargetLine, IsSound}
+use Rattle.media_build.specs.Accepted.{IsRecipeWord, IsMemberOf, IsLoadLine, IsFileLine, IsUserLine, IsBatchLine, IsTargetLine, IsSoundLine}
 use Rattle.media_build.specs.Lines.{one_of, two_of, three_of, four_of, five_of, target_of, names_of, members_of, files_of_load, has_user, is_used, is_loaded, target_count, may_follow, keyword_of}
 use Rattle.media_build.specs.Recipes.{required, passed, number_word, part_word, is_graphic_word, text_word, is_header_name, is_body_name, name_word, member_word, user_word, new_place, placed_words, has_room, load_has_room, type_words, set_line, members_line, load_said, load_line, hardware_line, position_line, source_words, file_said, file_line, user_line, is_batch_name, ident_word, batch_said, batch_line, load_part_word, load_part_words, place_words, batch_has_room, target_said, target_line, statement_said, keyword_said, words_said}
 use Rattle.media_build.specs.declared.fault.RecipeFault.{RecipeFault}
@@ -64,7 +64,7 @@ name_ok line word value e =
     let a = accepted (λ _. faults.Name line) (name_fault_of word) word value e in
     subst IsName a.1 ((name_faults.right word).1 a.0)
 
-graphic_is_word : (most : ℕ) (word : List ℕ) → is_graphic_word most word ≡ true → IsWord most word
+graphic_is_word : (most : ℕ) (word : List ℕ) → is_graphic_word most word ≡ true → IsRecipeWord most word
 graphic_is_word most word e =
     let sizes = first_test (nat_lt 0 (length word) && nat_le (length word) most) (list_all is_graphic word) e in
     let all = second_test (nat_lt 0 (length word) && nat_le (length word) most) (list_all is_graphic word) e in
@@ -72,11 +72,11 @@ graphic_is_word most word e =
     let few : length word ≤ most = leb-true _ _ (second_test (nat_lt 0 (length word)) (nat_le (length word) most) sizes) in
     record { some = omega arith; few = few; graphic = λ k lt. each_graphic word k all lt }
 
-text_ok : (line most : ℕ) (word value : List ℕ) → text_word line most word ≡ Ok value → IsWord most value
+text_ok : (line most : ℕ) (word value : List ℕ) → text_word line most word ≡ Ok value → IsRecipeWord most value
 unfolding text_word
 text_ok line most word value e =
     let p = passed_ok (is_graphic_word most word) (faults.Name line) word value e in
-    subst (IsWord most) p.1 (graphic_is_word most word p.0)
+    subst (IsRecipeWord most) p.1 (graphic_is_word most word p.0)
 
 in_range : (low high n m : ℕ) (a b : Bool) → nat_le low n ≡ a → nat_le n high ≡ b → cond (a && b) (Some n) None ≡ Some m → (low ≤ m) × (m ≤ high)
 in_range low high n m true true l h e =
@@ -179,7 +179,7 @@ keyword_for (Target target) = keywords.Target
 -- what holds of a line that is accepted after others
 pub record IsAccepted (before : List RecipeLine) (statement : Statement) : Type 0 where
   pub stands : may_follow before (keyword_for statement) ≡ true
-  pub sound : IsSound (members_of before) statement
+  pub sound : IsSoundLine (members_of before) statement
   pub room : HasRoom before statement
 
 room_ok : (before : List RecipeLine) → has_room before ≡ true → length (names_of before) < 1024
@@ -191,14 +191,14 @@ load_room_ok before e =
     let names = room_ok before (second_test (nat_lt (files_of_load before) 255) (has_room before) e) in
     (omega (arith, names), files)
 
-type_ok : (line : ℕ) (id name : List ℕ) (kind : ℕ × List ℕ) → type_words line id name ≡ Ok kind → (kind.0 ≤ 65535) × IsWord 64 kind.1
+type_ok : (line : ℕ) (id name : List ℕ) (kind : ℕ × List ℕ) → type_words line id name ≡ Ok kind → (kind.0 ≤ 65535) × IsRecipeWord 64 kind.1
 unfolding type_words
 type_ok line id name kind e =
     let number = then_ok (number_word line 0 65535 id) _ kind e in
     let text = then_ok (text_word line 64 name) _ kind number.2 in
     let same = same_ok (number.0, text.0) kind text.2 in
-    let both : (number.0 ≤ 65535) × IsWord 64 text.0 = ((number_ok line 0 65535 id number.0 number.1).1, text_ok line 64 name text.0 text.1) in
-    subst (λ (k : ℕ × List ℕ). (k.0 ≤ 65535) × IsWord 64 k.1) same both
+    let both : (number.0 ≤ 65535) × IsRecipeWord 64 text.0 = ((number_ok line 0 65535 id number.0 number.1).1, text_ok line 64 name text.0 text.1) in
+    subst (λ (k : ℕ × List ℕ). (k.0 ≤ 65535) × IsRecipeWord 64 k.1) same both
 
 load_ok : (line : ℕ) (before : List RecipeLine) (words : List (List ℕ)) (load : LoadLine) → load_line line before words ≡ Ok load
     → IsLoadLine (members_of before) load × HasRoom before (Load load)
@@ -224,14 +224,14 @@ load_ok line before words load e =
     let room : HasRoom before (Load this) = (place.new, room_ok before p.0) in
     subst (λ (l : LoadLine). IsLoadLine (members_of before) l × HasRoom before (Load l)) p.1 (sound, room)
 
-source_ok : (line : ℕ) (source part : List ℕ) (origin : List ℕ × List ℕ) → source_words line source part ≡ Ok origin → IsWord 150 origin.0 × IsWord 64 origin.1
+source_ok : (line : ℕ) (source part : List ℕ) (origin : List ℕ × List ℕ) → source_words line source part ≡ Ok origin → IsRecipeWord 150 origin.0 × IsRecipeWord 64 origin.1
 unfolding source_words
 source_ok line source part origin e =
     let from = then_ok (text_word line 150 source) _ origin e in
     let text = then_ok (text_word line 64 part) _ origin from.2 in
     let same = same_ok (from.0, text.0) origin text.2 in
-    let both : IsWord 150 from.0 × IsWord 64 text.0 = (text_ok line 150 source from.0 from.1, text_ok line 64 part text.0 text.1) in
-    subst (λ (o : List ℕ × List ℕ). IsWord 150 o.0 × IsWord 64 o.1) same both
+    let both : IsRecipeWord 150 from.0 × IsRecipeWord 64 text.0 = (text_ok line 150 source from.0 from.1, text_ok line 64 part text.0 text.1) in
+    subst (λ (o : List ℕ × List ℕ). IsRecipeWord 150 o.0 × IsRecipeWord 64 o.1) same both
 
 file_ok : (line : ℕ) (before : List RecipeLine) (words : List (List ℕ)) (file : FileLine) → file_line line before words ≡ Ok file
     → IsFileLine (members_of before) file × HasRoom before (Data file)
@@ -274,19 +274,19 @@ members_ok line words count e =
     let r = number_ok line 1 255 w.0 count w.2 in
     record { first = r.0; last = r.1 }
 
-hardware_ok : (line : ℕ) (words : List (List ℕ)) (id : List ℕ) → hardware_line line words ≡ Ok id → IsWord 64 id
+hardware_ok : (line : ℕ) (words : List (List ℕ)) (id : List ℕ) → hardware_line line words ≡ Ok id → IsRecipeWord 64 id
 unfolding hardware_line
 hardware_ok line words id e = let w = then_ok (required (faults.Word line) (one_of words)) _ id e in text_ok line 64 w.0 id w.2
 
-position_ok : (line : ℕ) (words : List (List ℕ)) (at : List ℕ × List ℕ) → position_line line words ≡ Ok at → IsWord 64 at.0 × IsWord 64 at.1
+position_ok : (line : ℕ) (words : List (List ℕ)) (at : List ℕ × List ℕ) → position_line line words ≡ Ok at → IsRecipeWord 64 at.0 × IsRecipeWord 64 at.1
 unfolding position_line
 position_ok line words at e =
     let w = then_ok (required (faults.Word line) (two_of words)) _ at e in
     let hardware = then_ok (text_word line 64 w.0.0) _ at w.2 in
     let position = then_ok (text_word line 64 w.0.1) _ at hardware.2 in
     let same = same_ok (hardware.0, position.0) at position.2 in
-    let both : IsWord 64 hardware.0 × IsWord 64 position.0 = (text_ok line 64 w.0.0 hardware.0 hardware.1, text_ok line 64 w.0.1 position.0 position.1) in
-    subst (λ (o : List ℕ × List ℕ). IsWord 64 o.0 × IsWord 64 o.1) same both
+    let both : IsRecipeWord 64 hardware.0 × IsRecipeWord 64 position.0 = (text_ok line 64 w.0.0 hardware.0 hardware.1, text_ok line 64 w.0.1 position.0 position.1) in
+    subst (λ (o : List ℕ × List ℕ). IsRecipeWord 64 o.0 × IsRecipeWord 64 o.1) same both
 
 -- ---- batches
 
@@ -386,7 +386,7 @@ target_ok line before words target e =
 -- ---- a whole line
 
 abbrev AcceptedAs : List RecipeLine → Keyword → Statement → Type 0
-AcceptedAs before keyword s = (keyword_for s ≡ keyword) × IsSound (members_of before) s × HasRoom before s
+AcceptedAs before keyword s = (keyword_for s ≡ keyword) × IsSoundLine (members_of before) s × HasRoom before s
 
 statement_ok : (line : ℕ) (before : List RecipeLine) (keyword : Keyword) (words : List (List ℕ)) (s : Statement) → statement_said line before keyword words ≡ Ok s → AcceptedAs before keyword s
 statement_ok line before keywords.Set words s e =

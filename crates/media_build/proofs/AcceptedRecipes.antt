@@ -7,11 +7,11 @@ use Rattle.std.proofs.lemmas.List.{append-nil}
 use Rattle.std.proofs.lemmas.List.Sums.{take_while-cons}
 use Rattle.std.proofs.lemmas.Bool.{leb-true}
 use Rattle.field_grammar.specs.Grammar.{◌then◌}
-use Rattle.field_grammar.specs.StepLaws.{then_ok}
+use Rattle.field_grammar.proofs.StepLemmas.{then_ok}
 use Rattle.load_base.specs.Bytes.{same_bytes}
 use Rattle.exchange_trace.specs.Scripts.{WrittenLine, written_lines}
 use Rattle.part_number.specs.PartNumber.{IsPartNumberText}
-use Rattle.media_build.specs.Accepted.{IsSound, IsMemberOf, is_of_loads, is_of_batches, AreBatches, IsInOrder, IsSmallLoad, IsSmallBatch, HasItsLoads, IsRecipe}
+use Rattle.media_build.specs.Accepted.{IsSoundLine, IsMemberOf, is_of_loads, is_of_batches, AreBatches, AreLinesInOrder, IsSmallLoad, IsSmallBatch, HasItsLoads, IsRecipe}
 use Rattle.media_build.specs.Lines.{names_in, names_of, members_in, members_of, given, files_of_load, has_user, is_used, ends_load, is_target, is_user, is_loaded, target_count, stage_after, stage_of, is_among_loads, is_batch, is_whole, may_stand}
 use Rattle.media_build.specs.Partials.{count_files, count_targets, keeps_user}
 use Rattle.media_build.specs.RecipeSets.{load_at, loads_of, batch_at, batches_of, targets_in, data_in, support_in}
@@ -201,7 +201,7 @@ is_further (Members count) = false
 is_further statement = true
 
 abbrev IsFurther : (members : ℕ) → RecipeLine → Type 0
-IsFurther members line = IsSound members line.statement × (is_further line.statement ≡ true)
+IsFurther members line = IsSoundLine members line.statement × (is_further line.statement ≡ true)
 
 -- after two lines neither `set` nor `members` stands
 further : (before : ℕ) (stage : Stage) (s : Statement) → 2 ≤ before → may_stand before stage (keyword_for s) ≡ true → is_further s ≡ true
@@ -243,7 +243,7 @@ members_stay before (line ∷ later) all =
     sym (ap members_of (append_assoc before (line ∷ []) later)) ∙ members_stay (before ++ line ∷ []) later all.1 ∙ members_more before line
     ∙ no_members line.statement (members_of before) all.0
 
-are_sound : (members : ℕ) (lines : List RecipeLine) → AllByRecursion (IsFurther members) lines → AllByRecursion (λ line. IsSound members line.statement) lines
+are_sound : (members : ℕ) (lines : List RecipeLine) → AllByRecursion (IsFurther members) lines → AllByRecursion (λ line. IsSoundLine members line.statement) lines
 are_sound members [] all = tt
 are_sound members (line ∷ lines) all = (all.0.0, are_sound members lines all.1)
 
@@ -398,7 +398,7 @@ split before (line ∷ later) all two loads =
     }
 
 order : (a b c : RecipeLine) (later : List RecipeLine) (set : List ℕ) (members : ℕ) (load : LoadLine) → a.statement ≡ Set set → b.statement ≡ Members members → c.statement ≡ Load load
-    → Split later → IsInOrder (a ∷ b ∷ c ∷ later)
+    → Split later → AreLinesInOrder (a ∷ b ∷ c ∷ later)
 order a b c later set members load first second third split = record {
   numbers = (a.number, b.number, c.number);
   set = set;
@@ -560,7 +560,7 @@ of_lines (a ∷ b ∷ c ∷ later) all three whole =
     let batches = batches_are (a ∷ b ∷ c ∷ []) later all.1.1.1 (omega arith) whole in
     record {
       order = order a b c later set.0 count.0 load.0 set.1 count.1 load.1 parts;
-      each = (rw set.1 set.2, (rw count.1 count.2, subst (λ (m : ℕ). AllByRecursion (λ line. IsSound m line.statement) (c ∷ later)) (sym members) sound));
+      each = (rw set.1 set.2, (rw count.1 count.2, subst (λ (m : ℕ). AllByRecursion (λ line. IsSoundLine m line.statement) (c ∷ later)) (sym members) sound));
       names = names.distinct;
       few = names.few;
       loads = loads_are [] (a ∷ b ∷ c ∷ later) all;

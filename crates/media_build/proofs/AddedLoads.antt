@@ -6,7 +6,7 @@ use Rattle.std.specs.Option.{ForSome}
 use Rattle.std.proofs.lemmas.List.{map-append}
 use Rattle.std.proofs.lemmas.List.Elements.{All-append, All-cons, All-map}
 use Rattle.std.proofs.lemmas.List.Sums.{sum_by-append, sum_by-cons}
-use Rattle.crc_fields.specs.WidthLaws.{crc16_fits, crc32_fits}
+use Rattle.crc_fields.proofs.WidthLemmas.{crc16_fits, crc32_fits}
 use Rattle.load_base.specs.Host.{Files, longest_file}
 use Rattle.load_base.specs.Listed.{Listed}
 use Rattle.load_header.specs.Header.{HeaderView}

@@ -19,7 +19,7 @@ use Rattle.media_check.specs.BuiltSets.{IsShortBody}
 use Rattle.media_check.specs.declared.built.Built.{Built}
 use Rattle.media_check.specs.declared.built.Placed.{Placed}
 use Rattle.media_build.specs.Accepted.{IsMemberOf, IsRecipe}
-use Rattle.media_build.specs.Building.{AnswersSizes, AreBodies, AreLoadBodies, Builds, CanTake, HasLists, IsFirstRefused, HasShortHeader, HaveShortHeaders, HaveSizes, IsAfterSizes, IsShortView, IsSmall, body_place, bodies_length, files_beside, files_bytes, batch_length, batches_length, batches_beside, batches_bytes, fixed_length, headers_length, loads_bytes, of_member, source_names, sources_in, unread}
+use Rattle.media_build.specs.Building.{AnswersSizes, AreBodies, AreLoadBodies, Builds, CanTake, HasLists, IsFirstRefused, HasShortHeader, HaveShortHeaders, HaveSizes, IsAfterSizes, IsShortView, IsSmallSet, body_place, bodies_length, files_beside, files_bytes, batch_length, batches_length, batches_beside, batches_bytes, fixed_length, headers_length, loads_bytes, of_member, source_names, sources_in, unread}
 use Rattle.media_build.specs.Lines.{members_of}
 use Rattle.media_build.specs.NoFindings.{HasShortSources, IsShortLoad, SizesFit, body_view, built_view}
 use Rattle.media_build.specs.RecipeSets.{BodyView, BuiltView, RecipeLoadView, RecipeBatchView, Sources, all_where_some, batch_body, batch_entry, batch_of, batches_list_bytes, batches_of, load_bodies, recipe_batches, files_list_bytes, files_of, listed_body, load_entry, loads_list_bytes, loads_of, recipe_bodies, recipe_files, recipe_loads, recipe_set, set_of}
@@ -288,7 +288,7 @@ short_bodies bodies short =
     let here : k < length (map body_view bodies) = omega (arith, within, length-map bodies body_view) in
     subst IsShortView at (short k (body_view d) here)
 
-pub built_is_small : (lines : List RecipeLine) (list : LoadsListView) (bodies : List Placed) (built : Built) → AreBodies lines (map body_view bodies) → HasLists list bodies (batches_of lines) built → IsSmall built
+pub built_is_small : (lines : List RecipeLine) (list : LoadsListView) (bodies : List Placed) (built : Built) → AreBodies lines (map body_view bodies) → HasLists list bodies (batches_of lines) built → IsSmallSet built
 built_is_small lines list bodies built are has =
     record {
       bodies = subst (All IsShortBody) (sym has.bodies_are) (short_bodies bodies are.short);

@@ -13,18 +13,18 @@ use Rattle.std.proofs.lemmas.Bool.{eq-eqb}
 use Rattle.std.proofs.lemmas.List.{map-append}
 use Rattle.crc_fields.specs.CheckSums.{crc16_of}
 use Rattle.load_base.specs.Bytes.{same_bytes}
-use Rattle.load_base.specs.EqualityLaws.{equal_bytes}
+use Rattle.load_base.proofs.EqualityLemmas.{equal_bytes}
 use Rattle.load_header.specs.Header.{header}
 use Rattle.load_header.specs.declared.header.FileEntry.{FileEntry}
 use Rattle.media_lists.specs.Entries.{is_listed}
 use Rattle.media_lists.specs.Loads.{LoadEntryView, load_name}
 use Rattle.media_lists.specs.declared.fault.ListFault.{ListFault}
 use Rattle.media_lists.specs.declared.lists.ListedFile.{ListedFile}
-use Rattle.media_check.specs.Findings.{plain, detailed, where_it_holds, same_load, same_file, same_batch, batches_sort, same_but_member, is_members_list, list_findings, member_findings, of_members, body_findings, entry_findings, is_file, file_findings, load_findings, header_findings, has_other_crc, batches_list_findings, parts_of, part_findings, read_batch_findings, batch_findings, load_part, is_part_of, has_batches, all_batches_findings, batches_findings, contents_findings, findings_of}
+use Rattle.media_check.specs.Findings.{plain, detailed, where_it_holds, same_load, same_file, same_batch, same_but_member, is_members_list, list_findings, member_findings, of_members, body_findings, entry_findings, is_file, file_findings, load_findings, header_findings, has_other_crc, batches_list_findings, parts_of, part_findings, read_batch_findings, batch_findings, is_part_of, has_batches, all_batches_findings, batches_findings, findings_of}
 use Rattle.media_check.specs.Findings as findings
 use Rattle.media_check.specs.Sets as sets
 use Rattle.media_check.specs.Kept.{contents, entries_of}
-use Rattle.media_check.specs.Sets.{SetView, MemberView, Media, find, set_in}
+use Rattle.media_check.specs.Sets.{SetView, MemberView, MediaBytes, find, set_in}
 use Rattle.media_check.specs.declared.finding.Finding.{Finding}
 use Rattle.media_check.specs.declared.found.Found.TheVariants.{Read}
 use Rattle.media_build.specs.Accepted.{IsFileLine, HasItsLoads, IsRecipe}
@@ -453,5 +453,5 @@ module _ (sources : Sources) (lines : List RecipeLine) (is : IsRecipe lines) (fi
   no_finding_in_set = none_both _ _ no_list_findings (none_both _ _ (none_both _ _ no_entry_findings no_load_findings) no_batches_findings)
 
   -- media that have the set of a recipe whose sizes fit have no finding
-  pub nothing_is_found : (media : Media) → HaveSet media sources lines → findings_of (set_in media) ≡ []
+  pub nothing_is_found : (media : MediaBytes) → HaveSet media sources lines → findings_of (set_in media) ≡ []
   nothing_is_found media has = ap findings_of (set_is_read media sources lines has is fits laws) ∙ no_finding_in_set

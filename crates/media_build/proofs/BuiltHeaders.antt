@@ -3,19 +3,19 @@ use Rattle.std.proofs.Common.{◌≡◌, ℕ, zero, suc, ◌+◌, ◌-◌, ◌%�
 use Rattle.std.specs.Prelude.{map, filter, slice_index}
 use Rattle.std.specs.List.{AllByRecursion, flat_map}
 use Rattle.std.proofs.lemmas.List.{length-map}
-use Rattle.crc_fields.specs.WidthLaws.{crc16_fits, crc32_fits}
+use Rattle.crc_fields.proofs.WidthLemmas.{crc16_fits, crc32_fits}
 use Rattle.load_base.specs.Bytes.{same_bytes}
 use Rattle.load_base.specs.Host.{longest_file}
 use Rattle.field_grammar.specs.Fields.{number_fields, padded_fields}
 use Rattle.field_grammar.specs.Grammar.{IsBytes}
-use Rattle.field_grammar.specs.SectionLaws.{size_more, size_number, size_padded}
+use Rattle.field_grammar.proofs.SectionLemmas.{size_more, size_number, size_padded}
 use Rattle.field_grammar.specs.Spelling.{spelled_length}
 use Rattle.header_sections.specs.SectionFields.{texts_fields}
-use Rattle.header_sections.specs.SizeLaws.{size_texts}
+use Rattle.header_sections.proofs.SizeLemmas.{size_texts}
 use Rattle.load_header.specs.Header.{HeaderView, HardwareAtView}
 use Rattle.load_header.specs.HeaderFields.{hardware_at_fields, positions_fields, header_size, type_fields, IsHardwareAt, IsHeaderFile, IsHeader, HeaderSpells}
 use Rattle.load_header.specs.HeaderChanges.{with_load_crc}
-use Rattle.media_build.specs.Accepted.{IsWord, IsFileLine, IsSound, IsSmallLoad, IsRecipe}
+use Rattle.media_build.specs.Accepted.{IsRecipeWord, IsFileLine, IsSoundLine, IsSmallLoad, IsRecipe}
 use Rattle.media_build.specs.Lines.{members_of}
 use Rattle.media_build.specs.NoFindings.{IsShortLoad, HasShortSources, SizesFit}
 use Rattle.media_build.specs.RecipeSets.{Sources, RecipeLoadView, position_in, user_in, loads_of, hardware_of, data_of, support_of, distinct, positions_at, gathered, bytes_of, file_entry, header_start, header_bytes, load_crc_of, header_of}
@@ -31,9 +31,9 @@ abbrev Pair : Type 0
 Pair = List ℕ × List ℕ
 
 abbrev IsPair : Pair → Type 0
-IsPair pair = IsWord 64 pair.0 × IsWord 64 pair.1
+IsPair pair = IsRecipeWord 64 pair.0 × IsRecipeWord 64 pair.1
 
-pair_in : (members : ℕ) (s : Statement) → IsSound members s → AllByRecursion IsPair (position_in s)
+pair_in : (members : ℕ) (s : Statement) → IsSoundLine members s → AllByRecursion IsPair (position_in s)
 pair_in members (Set part) is = tt
 pair_in members (Members count) is = tt
 pair_in members (Load load) is = tt
@@ -59,20 +59,20 @@ all_distinct P (text ∷ texts) all = (all.0, all_filter P (λ other. not (same_
 
 -- a kind of hardware and its positions, of words
 record AreWords (at : HardwareAtView) : Type 0 where
-  hardware : IsWord 64 at.hardware
-  positions : AllByRecursion (IsWord 64) at.positions
+  hardware : IsRecipeWord 64 at.hardware
+  positions : AllByRecursion (IsRecipeWord 64) at.positions
 
-at_words : (pairs : List Pair) → AllByRecursion IsPair pairs → (hardware : List ℕ) → IsWord 64 hardware → AreWords (positions_at pairs hardware)
+at_words : (pairs : List Pair) → AllByRecursion IsPair pairs → (hardware : List ℕ) → IsRecipeWord 64 hardware → AreWords (positions_at pairs hardware)
 at_words pairs all hardware is = record {
   hardware = is;
-  positions = all_map IsPair (IsWord 64) (λ pair. pair.1) (λ pair both. both.1) (filter (λ pair. same_bytes hardware pair.0) pairs)
+  positions = all_map IsPair (IsRecipeWord 64) (λ pair. pair.1) (λ pair both. both.1) (filter (λ pair. same_bytes hardware pair.0) pairs)
       (all_filter IsPair (λ pair. same_bytes hardware pair.0) pairs all);
 }
 
 gathered_words : (pairs : List Pair) → AllByRecursion IsPair pairs → AllByRecursion AreWords (gathered pairs)
 gathered_words pairs all =
-    let ids = all_map IsPair (IsWord 64) (λ pair. pair.0) (λ pair both. both.0) pairs all in
-    all_map (IsWord 64) AreWords (positions_at pairs) (at_words pairs all) (distinct (map (λ pair. pair.0) pairs)) (all_distinct (IsWord 64) (map (λ pair. pair.0) pairs) ids)
+    let ids = all_map IsPair (IsRecipeWord 64) (λ pair. pair.0) (λ pair both. both.0) pairs all in
+    all_map (IsRecipeWord 64) AreWords (positions_at pairs) (at_words pairs all) (distinct (map (λ pair. pair.0) pairs)) (all_distinct (IsRecipeWord 64) (map (λ pair. pair.0) pairs) ids)
 
 -- texts take more bytes than they are
 few_texts : (texts : List (List ℕ)) → length texts ≤ spelled_length (flat_map padded_fields texts)
@@ -145,7 +145,7 @@ user_more xs ys first second = record { each = bytes_more xs ys first.each secon
 no_user : IsUser []
 no_user = record { each = λ i. omega arith; even = refl }
 
-user_line : (members : ℕ) (s : Statement) → IsSound members s → IsUser (user_in s)
+user_line : (members : ℕ) (s : Statement) → IsSoundLine members s → IsUser (user_in s)
 user_line members (Set part) is = no_user
 user_line members (Members count) is = no_user
 user_line members (Load load) is = no_user
@@ -157,7 +157,7 @@ user_line members (User bytes) is = record { each = is.each; even = is.even }
 user_line members (Batch batch) is = no_user
 user_line members (Target target) is = no_user
 
-user_of : (members : ℕ) (own : List Statement) → AllByRecursion (IsSound members) own → IsUser (flat_map user_in own)
+user_of : (members : ℕ) (own : List Statement) → AllByRecursion (IsSoundLine members) own → IsUser (flat_map user_in own)
 user_of members [] all = no_user
 user_of members (s ∷ own) all = user_more (user_in s) (flat_map user_in own) (user_line members s all.0) (user_of members own all.1)
 
@@ -181,7 +181,7 @@ unfolding header_start
 short_is_header sources members load sound small files short =
     let h : HeaderView = header_start sources load in
     let pairs : List Pair = flat_map position_in load.own in
-    let words = gathered_words pairs (all_flat (IsSound members) IsPair position_in (pair_in members) load.own sound.own) in
+    let words = gathered_words pairs (all_flat (IsSoundLine members) IsPair position_in (pair_in members) load.own sound.own) in
     let size : header_size h ≤ 65536 = short in
     let within = positions_within h in
     let texts : spelled_length (texts_fields (hardware_of load)) ≤ 65536 = omega (arith, size, hardware_within h) in

@@ -4,18 +4,18 @@ use Rattle.std.specs.Prelude.{map, codes, slice_index}
 use Rattle.std.specs.List.{All, AllByRecursion, flat_map, concat, IsDistinct}
 use Rattle.std.proofs.lemmas.List.Elements.{All-nil, All-cons}
 use Rattle.std.proofs.lemmas.List.{append-nil, length-map}
-use Rattle.crc_fields.specs.WidthLaws.{crc16_fits}
+use Rattle.crc_fields.proofs.WidthLemmas.{crc16_fits}
 use Rattle.load_base.specs.Name.{IsName}
 use Rattle.load_base.specs.Text.{IsText}
 use Rattle.part_number.specs.PartNumber.{IsPartNumberText}
-use Rattle.part_number.specs.VerdictLaws.{part_size}
+use Rattle.part_number.proofs.VerdictLemmas.{part_size}
 use Rattle.field_grammar.specs.Fields.{number_fields, padded_fields}
-use Rattle.field_grammar.specs.NumberLaws.{length_number_bytes}
-use Rattle.field_grammar.specs.TextLaws.{length_pad_bytes}
-use Rattle.field_grammar.specs.SectionLaws.{size_more, size_number, size_padded}
+use Rattle.field_grammar.proofs.NumberLemmas.{length_number_bytes}
+use Rattle.field_grammar.proofs.TextLemmas.{length_pad_bytes}
+use Rattle.field_grammar.proofs.SectionLemmas.{size_more, size_number, size_padded}
 use Rattle.field_grammar.specs.Spelling.{spelled_length}
 use Rattle.header_sections.specs.SectionFields.{texts_fields, user_fields, entry_size, entries_fields, HaveDistances}
-use Rattle.header_sections.specs.SizeLaws.{size_texts, size_user, size_entries, total_of}
+use Rattle.header_sections.proofs.SizeLemmas.{size_texts, size_user, size_entries, total_of}
 use Rattle.load_base.specs.Bytes.{same_bytes}
 use Rattle.batch_lists.specs.BatchFields.{IsBatchTarget, AreContents, IsBatch}
 use Rattle.batch_lists.specs.Batches.{batch_body_fields, batch_file, IsListedBatch, IsBatchesList}
@@ -28,7 +28,7 @@ use Rattle.media_lists.specs.ListFields.{IsMember, identity_fields, list_size}
 use Rattle.media_lists.specs.Loads.{LoadEntryView, load_body_fields, load_name, IsListedLoad, IsLoadsList}
 use Rattle.media_lists.specs.Paths.{IsPath}
 use Rattle.media_lists.specs.declared.lists.ListedFile.{ListedFile}
-use Rattle.media_build.specs.Accepted.{IsWord, IsMemberOf, IsLoadLine, IsFileLine, IsBatchLine, IsTargetLine, IsSound, IsSmallBatch, IsRecipe, is_of_loads, is_of_batches}
+use Rattle.media_build.specs.Accepted.{IsRecipeWord, IsMemberOf, IsLoadLine, IsFileLine, IsBatchLine, IsTargetLine, IsSoundLine, IsSmallBatch, IsRecipe, is_of_loads, is_of_batches}
 use Rattle.media_build.specs.Lines.{ends_load, is_target, members_of}
 use Rattle.media_build.specs.NoFindings.{IsShortLoad, SizesFit}
 use Rattle.media_build.specs.RecipeSets.{Sources, RecipeLoadView, RecipeBatchView, BodyView, set_in, set_of, hardware_in, data_in, support_in, targets_in, load_at, loads_of, batch_at, batches_of, batch_target, batch_of, batch_body, batch_entry, recipe_batches, hardware_of, data_of, support_of, files_of, file_body, load_bodies, recipe_bodies, load_entry, recipe_loads, listed_body, recipe_files}
@@ -70,10 +70,10 @@ map_map g f (x ∷ xs) = ap (λ (l : List _). g (f x) ∷ l) (map_map g f xs)
 
 -- ---- words
 
-pub word_is_text : (most : ℕ) (word : List ℕ) → most ≤ 255 → IsWord most word → IsText word
+pub word_is_text : (most : ℕ) (word : List ℕ) → most ≤ 255 → IsRecipeWord most word → IsText word
 word_is_text most word small is = record { size = omega (arith, is.few); good = λ k lt. graphic_is_printable (slice_index word k) (is.graphic k lt) }
 
-pub words_are_texts : (words : List (List ℕ)) → AllByRecursion (IsWord 64) words → AllByRecursion IsText words
+pub words_are_texts : (words : List (List ℕ)) → AllByRecursion (IsRecipeWord 64) words → AllByRecursion IsText words
 words_are_texts [] all = tt
 words_are_texts (word ∷ words) all = (word_is_text 64 word (omega arith) all.0, words_are_texts words all.1)
 
@@ -81,17 +81,17 @@ words_are_texts (word ∷ words) all = (word_is_text 64 word (omega arith) all.0
 
 pub record IsSoundLoad (members : ℕ) (load : RecipeLoadView) : Type 0 where
   pub line : IsLoadLine members load.load
-  pub own : AllByRecursion (IsSound members) load.own
+  pub own : AllByRecursion (IsSoundLine members) load.own
 
 abbrev AreSound : (members : ℕ) → List RecipeLine → Type 0
-AreSound members lines = AllByRecursion (λ line. IsSound members line.statement) lines
+AreSound members lines = AllByRecursion (λ line. IsSoundLine members line.statement) lines
 
-own_are_sound : (members : ℕ) (lines : List RecipeLine) → AreSound members lines → AllByRecursion (IsSound members) (own lines)
+own_are_sound : (members : ℕ) (lines : List RecipeLine) → AreSound members lines → AllByRecursion (IsSoundLine members) (own lines)
 own_are_sound members [] all = tt
 own_are_sound members (line ∷ later) all =
-    subst (AllByRecursion (IsSound members)) (sym (own_more line later)) (by (ends_load line.statement) (own_are_sound members later all.1))
+    subst (AllByRecursion (IsSoundLine members)) (sym (own_more line later)) (by (ends_load line.statement) (own_are_sound members later all.1))
   where
-    by : (b : Bool) → AllByRecursion (IsSound members) (own later) → AllByRecursion (IsSound members) (cond (not b) (line.statement ∷ own later) [])
+    by : (b : Bool) → AllByRecursion (IsSoundLine members) (own later) → AllByRecursion (IsSoundLine members) (cond (not b) (line.statement ∷ own later) [])
     by true rest = tt
     by false rest = (all.0, rest)
 
@@ -99,7 +99,7 @@ loads_are_sound : (members : ℕ) (lines : List RecipeLine) → AreSound members
 loads_are_sound members [] all = tt
 loads_are_sound members (line ∷ later) all = by line.statement all.0 (own_are_sound members later all.1) (loads_are_sound members later all.1)
   where
-    by : (s : Statement) → IsSound members s → AllByRecursion (IsSound members) (own later) → AllByRecursion (IsSoundLoad members) (loads_of later)
+    by : (s : Statement) → IsSoundLine members s → AllByRecursion (IsSoundLine members) (own later) → AllByRecursion (IsSoundLoad members) (loads_of later)
         → AllByRecursion (IsSoundLoad members) (load_at line.number s later ++ loads_of later)
     by (Set part) this mine rest = rest
     by (Members count) this mine rest = rest
@@ -115,7 +115,7 @@ loads_are_sound members (line ∷ later) all = by line.statement all.0 (own_are_
 pub sound_loads : (lines : List RecipeLine) → IsRecipe lines → AllByRecursion (IsSoundLoad (members_of lines)) (loads_of lines)
 sound_loads lines is = loads_are_sound (members_of lines) lines is.each
 
-hardware_word : (members : ℕ) (s : Statement) → IsSound members s → AllByRecursion (IsWord 64) (hardware_in s)
+hardware_word : (members : ℕ) (s : Statement) → IsSoundLine members s → AllByRecursion (IsRecipeWord 64) (hardware_in s)
 hardware_word members (Set part) is = tt
 hardware_word members (Members count) is = tt
 hardware_word members (Load load) is = tt
@@ -127,7 +127,7 @@ hardware_word members (User bytes) is = tt
 hardware_word members (Batch batch) is = tt
 hardware_word members (Target target) is = tt
 
-data_file : (members : ℕ) (s : Statement) → IsSound members s → AllByRecursion (IsFileLine members) (data_in s)
+data_file : (members : ℕ) (s : Statement) → IsSoundLine members s → AllByRecursion (IsFileLine members) (data_in s)
 data_file members (Set part) is = tt
 data_file members (Members count) is = tt
 data_file members (Load load) is = tt
@@ -139,7 +139,7 @@ data_file members (User bytes) is = tt
 data_file members (Batch batch) is = tt
 data_file members (Target target) is = tt
 
-support_file : (members : ℕ) (s : Statement) → IsSound members s → AllByRecursion (IsFileLine members) (support_in s)
+support_file : (members : ℕ) (s : Statement) → IsSoundLine members s → AllByRecursion (IsFileLine members) (support_in s)
 support_file members (Set part) is = tt
 support_file members (Members count) is = tt
 support_file members (Load load) is = tt
@@ -151,14 +151,14 @@ support_file members (User bytes) is = tt
 support_file members (Batch batch) is = tt
 support_file members (Target target) is = tt
 
-pub hardware_words : (members : ℕ) (load : RecipeLoadView) → IsSoundLoad members load → AllByRecursion (IsWord 64) (hardware_of load)
-hardware_words members load is = all_flat (IsSound members) (IsWord 64) hardware_in (hardware_word members) load.own is.own
+pub hardware_words : (members : ℕ) (load : RecipeLoadView) → IsSoundLoad members load → AllByRecursion (IsRecipeWord 64) (hardware_of load)
+hardware_words members load is = all_flat (IsSoundLine members) (IsRecipeWord 64) hardware_in (hardware_word members) load.own is.own
 
 pub data_files : (members : ℕ) (load : RecipeLoadView) → IsSoundLoad members load → AllByRecursion (IsFileLine members) (data_of load)
-data_files members load is = all_flat (IsSound members) (IsFileLine members) data_in (data_file members) load.own is.own
+data_files members load is = all_flat (IsSoundLine members) (IsFileLine members) data_in (data_file members) load.own is.own
 
 pub support_files : (members : ℕ) (load : RecipeLoadView) → IsSoundLoad members load → AllByRecursion (IsFileLine members) (support_of load)
-support_files members load is = all_flat (IsSound members) (IsFileLine members) support_in (support_file members) load.own is.own
+support_files members load is = all_flat (IsSoundLine members) (IsFileLine members) support_in (support_file members) load.own is.own
 
 -- ---- the set
 
@@ -290,7 +290,7 @@ batch_lines : (members : ℕ) (lines : List RecipeLine) → AreSound members lin
 batch_lines members [] all = tt
 batch_lines members (line ∷ later) all = by line.statement all.0 (batch_lines members later all.1)
   where
-    by : (s : Statement) → IsSound members s → AllByRecursion (λ batch. IsBatchLine members batch.batch) (batches_of later)
+    by : (s : Statement) → IsSoundLine members s → AllByRecursion (λ batch. IsBatchLine members batch.batch) (batches_of later)
         → AllByRecursion (λ batch. IsBatchLine members batch.batch) (batch_at s later ++ batches_of later)
     by (Set part) this rest = rest
     by (Members count) this rest = rest
@@ -303,7 +303,7 @@ batch_lines members (line ∷ later) all = by line.statement all.0 (batch_lines 
     by (Batch batch) this rest = (this, rest)
     by (Target target) this rest = rest
 
-target_lines : (members : ℕ) (s : Statement) → IsSound members s → AllByRecursion IsTargetLine (targets_in s)
+target_lines : (members : ℕ) (s : Statement) → IsSoundLine members s → AllByRecursion IsTargetLine (targets_in s)
 target_lines members (Set part) is = tt
 target_lines members (Members count) is = tt
 target_lines members (Load load) is = tt
@@ -348,7 +348,7 @@ each_batch lines is =
 abbrev load_limit : ℕ
 load_limit = 131070
 
-size_words : (words : List (List ℕ)) → AllByRecursion (IsWord 64) words → spelled_length (flat_map padded_fields words) ≤ 66 * length words
+size_words : (words : List (List ℕ)) → AllByRecursion (IsRecipeWord 64) words → spelled_length (flat_map padded_fields words) ≤ 66 * length words
 size_words [] all = omega arith
 size_words (word ∷ words) all =
     omega (arith, size_more (padded_fields word) (flat_map padded_fields words), size_padded word, all.0.few, size_words words all.1)

@@ -6,7 +6,7 @@ use Rattle.std.specs.List.{AllByRecursion, IsDistinct, flat_map}
 use Rattle.std.proofs.lemmas.Cmp.{nat_list_eq_equiv}
 use Rattle.std.proofs.lemmas.List.{map-append}
 use Rattle.load_base.specs.Bytes.{same_bytes}
-use Rattle.load_base.specs.EqualityLaws.{equal_bytes}
+use Rattle.load_base.proofs.EqualityLemmas.{equal_bytes}
 use Rattle.media_lists.specs.Entries.{is_listed}
 use Rattle.media_lists.specs.ListFields.{AreNew}
 use Rattle.media_build.specs.Accepted.{is_of_loads, is_of_batches, IsRecipe}

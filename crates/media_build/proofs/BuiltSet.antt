@@ -13,7 +13,7 @@ use Rattle.batch_lists.specs.Batches.{BatchesListView, batches_list, BatchesSpel
 use Rattle.batch_lists.specs.declared.fault.BatchesFault.{BatchesFault}
 use Rattle.media_lists.specs.declared.fault.ListFault.{ListFault}
 use Rattle.field_grammar.specs.Answers.{answer}
-use Rattle.field_grammar.specs.ExactLaws.{answer-spelled, spelled_at_start}
+use Rattle.field_grammar.proofs.ExactLemmas.{answer-spelled, spelled_at_start}
 use Rattle.field_grammar.specs.Grammar.{Grammar, Spelled}
 use Rattle.load_header.specs.Header.{header, HeaderView}
 use Rattle.load_header.specs.HeaderChanges.{with_load_crc}
@@ -21,7 +21,7 @@ use Rattle.load_header.specs.HeaderFields.{header_size, HeaderSpells}
 use Rattle.media_lists.specs.Files.{FilesListView, files_list, FilesSpells}
 use Rattle.media_lists.specs.Loads.{LoadsListView, loads_list, LoadsSpells}
 use Rattle.media_check.specs.BuiltSets.{member_list, body_of, built_media}
-use Rattle.media_check.specs.Sets.{Media, MemberView, ListedFileView, SetView, found_as, found_in, lists_in, file_in, set_with, set_in}
+use Rattle.media_check.specs.Sets.{MediaBytes, MemberView, ListedFileView, SetView, found_as, found_in, lists_in, file_in, set_with, set_in}
 use Rattle.media_check.specs.declared.built.Built.{Built}
 use Rattle.media_check.specs.declared.built.Placed.{Placed}
 use Rattle.media_check.specs.declared.found.Found.{Found}
@@ -88,19 +88,19 @@ same_set : (first : MemberView) (a b : List MemberView) (c d : List (List ℕ ×
     → (let one : SetView = record { first = first; further = a; files = c } in one) ≡ record { first = first; further = b; files = d }
 same_set first a b c d e f = rw (e, f) refl
 
-module _ (media : Media) (sources : Sources) (lines : List RecipeLine) (has : HaveSet media sources lines) (is : IsRecipe lines) (fits : SizesFit sources lines) (laws : FormatLaws) where
+module _ (media : MediaBytes) (sources : Sources) (lines : List RecipeLine) (has : HaveSet media sources lines) (is : IsRecipe lines) (fits : SizesFit sources lines) (laws : FormatLaws) where
   loads_found : (member : ℕ) → IsMemberOf (members_of lines) member → found_in loads_list (media.loads_list member) ≡ Read (recipe_loads lines member)
   unfolding loads_list_bytes
   loads_found member in_set =
       let spells : LoadsSpells (recipe_loads lines member) (loads_list_bytes lines member) = (loads_fit sources lines member is fits in_set, refl) in
-      ap (λ (bytes : Option (List ℕ)). found_in loads_list bytes) (has.loads member in_set)
+      ap (λ (bytes : Option (List ℕ)). found_in loads_list bytes) (has.has.loads member in_set)
       ∙ ap (λ (r : _). found_as r) (answer_is loads_list (loads_list_bytes lines member) (recipe_loads lines member) (laws.loads (recipe_loads lines member) (loads_list_bytes lines member) spells))
 
   files_found : (member : ℕ) → IsMemberOf (members_of lines) member → found_in files_list (media.files_list member) ≡ Read (recipe_files sources lines member)
   unfolding files_list_bytes
   files_found member in_set =
       let spells : FilesSpells (recipe_files sources lines member) (files_list_bytes sources lines member) = (files_fit sources lines member is in_set, refl) in
-      ap (λ (bytes : Option (List ℕ)). found_in files_list bytes) (has.files member in_set)
+      ap (λ (bytes : Option (List ℕ)). found_in files_list bytes) (has.has.files member in_set)
       ∙ ap (λ (r : _). found_as r) (answer_is files_list (files_list_bytes sources lines member) (recipe_files sources lines member) (laws.files (recipe_files sources lines member) (files_list_bytes sources lines member) spells))
 
   batches_found : (member : ℕ) → IsMemberOf (members_of lines) member → found_in batches_list (media.batches_list member) ≡ found_where (batches_of lines) (recipe_batches lines member)
@@ -140,7 +140,7 @@ module _ (media : Media) (sources : Sources) (lines : List RecipeLine) (has : Ha
       let start = has_start lines is in
       let count : 2 + (members_of lines - 1) ≤ members_of lines + 1 = omega (arith, start.members.first) in
       same_set (lists_of_member sources lines 1) _ _ _ _ (members_found 2 (members_of lines - 1) (omega arith) count)
-      (files_there (recipe_bodies sources lines) has.bodies)
+      (files_there (recipe_bodies sources lines) has.has.bodies)
 
   -- the media tell this set
   pub set_is_read : set_in media ≡ read_set sources lines
@@ -169,10 +169,12 @@ list_where_some (first ∷ others) f lists members member same in_set = list_the
 pub built_media_have : (sources : Sources) (lines : List RecipeLine) (built : Built) → IsRecipe lines → built_view built ≡ recipe_set sources lines → HaveSet (built_media built) sources lines
 unfolding recipe_set
 built_media_have sources lines built is same = record {
-  loads = λ member. list_there (loads_list_bytes lines) built.loads.items (members_of lines) member (ap (λ (set : BuiltView). set.loads) same);
-  files = λ member. list_there (files_list_bytes sources lines) built.files.items (members_of lines) member (ap (λ (set : BuiltView). set.files) same);
+  has = record {
+    loads = λ member. list_there (loads_list_bytes lines) built.loads.items (members_of lines) member (ap (λ (set : BuiltView). set.loads) same);
+    files = λ member. list_there (files_list_bytes sources lines) built.files.items (members_of lines) member (ap (λ (set : BuiltView). set.files) same);
+    bodies = all_same _ _ body_there (recipe_bodies sources lines) (each_is_found body_name (λ b. b.bytes) (recipe_bodies sources lines) (bodies_are_distinct sources lines is));
+  };
   batches = λ member. list_where_some (batches_of lines) (batches_list_bytes lines) built.batches.items (members_of lines) member (ap (λ (set : BuiltView). set.batches) same);
-  bodies = all_same _ _ body_there (recipe_bodies sources lines) (each_is_found body_name (λ b. b.bytes) (recipe_bodies sources lines) (bodies_are_distinct sources lines is));
 }
   where
     body_there : (body : BodyView) → lookup (same_bytes body.name) (map (named body_name (λ b. b.bytes)) (recipe_bodies sources lines)) ≡ Some body.bytes

@@ -6,7 +6,7 @@ use Rattle.std.proofs.lemmas.List.{reverse-append, append-nil}
 use Rattle.std.proofs.lemmas.List.Concat.{flat_map-append}
 use Rattle.std.proofs.lemmas.List.Sums.{take_while-cons}
 use Rattle.load_base.specs.Bytes.{same_bytes}
-use Rattle.load_base.specs.EqualityLaws.{equal_bytes}
+use Rattle.load_base.proofs.EqualityLemmas.{equal_bytes}
 use Rattle.media_build.specs.Lines.{given, members_in, names_in, parts_in, names_of, members_of, lines_of_load, files_of_load, has_user, is_load, is_file, is_user, is_target, is_loaded, first_count, stage_after, stage_of, stage_of_last, targets_of_batch, target_count}
 use Rattle.media_build.specs.Partials.{KeepsCount, AreCounts, AreLoaded, MayFollow, IsNewName, count_files, count_targets, counts_after, keeps_user, with_part, with_parts}
 use Rattle.media_build.specs.declared.line_counts.Counts.{Counts}

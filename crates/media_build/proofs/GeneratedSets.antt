@@ -12,7 +12,7 @@ use Rattle.load_base.specs.Verdicts.{name_fault_of}
 use Rattle.part_number.specs.Verdicts.{part_fault_of}
 use Rattle.part_number.specs.PartNumber.{IsPartNumberText, is_good_at, check_of}
 use Rattle.field_grammar.specs.Fields.{number_bytes, number_fields, pad_bytes}
-use Rattle.field_grammar.specs.SectionLaws.{size_more, size_number}
+use Rattle.field_grammar.proofs.SectionLemmas.{size_more, size_number}
 use Rattle.field_grammar.specs.Spelling.{listed_fields}
 use Rattle.header_sections.specs.SectionFields.{texts_fields, user_fields, entries_fields}
 use Rattle.load_header.specs.HeaderFields as header
@@ -28,7 +28,7 @@ use Rattle.media_check.specs.Findings.{findings_of}
 use Rattle.media_check.specs.Sets.{set_in}
 use Rattle.media_check.specs.declared.built.Built.{Built}
 use Rattle.media_build.specs.Accepted.{IsMemberOf, IsRecipe}
-use Rattle.media_build.specs.Building.{IsSmall}
+use Rattle.media_build.specs.Building.{IsSmallSet}
 use Rattle.media_build.specs.Generator.{generated, state_at}
 use Rattle.media_build.specs.GeneratedSet.{generated_recipe, generated_lines, generated_load_view, always, generated_sources, set_of_one}
 use Rattle.media_build.specs.Lines.{keyword_of, may_stand, stage_of, names_of, members_of, lines_of_load}
@@ -178,7 +178,7 @@ made_sound (Err fault) number law is = is
 
 -- its two files, one by one and together
 pub made_small : {E : Type 0} (r : Result Built E) (loads files header file : List ℕ) → length header ≤ 65536 → length file ≤ 16777215
-    → IfOk r (λ built. built_view built ≡ set_of_one loads files header file) → IfOk r HasShortBodies → IfOk r IsSmall
+    → IfOk r (λ built. built_view built ≡ set_of_one loads files header file) → IfOk r HasShortBodies → IfOk r IsSmallSet
 made_small (Ok built) loads files header file small short parts bodies =
     let total = total_built built.bodies.items in
     let these = ap (λ (set : BuiltView). sum_by (λ body. length body.bytes) set.bodies) parts in

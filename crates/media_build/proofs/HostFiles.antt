@@ -2,11 +2,11 @@
 use Rattle.std.proofs.Common.{◌≡◌, ◌≢◌, ℕ, suc, ◌+◌, ◌-◌, ◌<◌, Bool, true, false, cond, List, [], ◌∷◌, ◌++◌, length, drop, get_or, Option, Some, None, Result, Ok, Err, refl, sym, ◌∙◌, ap, append_assoc, drop-cons, arith}
 use Rattle.std.specs.List.{flat_map, range_with_len}
 use Rattle.load_base.specs.Bytes.{same_bytes}
-use Rattle.load_base.specs.EqualityLaws.{equal_bytes}
+use Rattle.load_base.proofs.EqualityLemmas.{equal_bytes}
 use Rattle.load_base.specs.Host.{Files, WritesFile}
 use Rattle.load_base.specs.declared.sink.WriteFault.{WriteFault}
 use Rattle.load_base.specs.declared.sink.WriteFault.TheVariants as writing
-use Rattle.media_build.specs.HostWrites.{Written, Writes, WritesFiles, after_writes, written_bodies, is_of}
+use Rattle.media_build.specs.HostWrites.{Written, WritesToHost, WritesAllFiles, after_writes, written_bodies, is_of}
 use Rattle.media_check.specs.declared.built.Placed.{Placed}
 
 -- ---- what each name has
@@ -42,7 +42,7 @@ untouched name old new others here other = by (same_bytes other name) refl
     by false e = others other (λ same. let yes = (equal_bytes other name).1 same in cc)
 
 pub writes_one : (name bytes : List ℕ) (old new : Option Files) (result : Result (Unit {0}) WriteFault) → WritesFile old new name bytes result
-    → Writes ((name, bytes) ∷ []) old new result
+    → WritesToHost ((name, bytes) ∷ []) old new result
 writes_one name bytes None new result is = record { told = tt }
 writes_one name bytes (Some old) new (Ok x) is = record { told = (is.0, is.1, written_one (name, bytes) old is.0 is.2.0 is.2.1) }
 writes_one name bytes (Some old) new (Err writing.Failed) is =
@@ -52,12 +52,12 @@ writes_one name bytes (Some old) new (Err writing.Memory) is =
 
 -- ---- one after the other
 
-pub writes_none : (files : Option Files) → Writes [] files files (Ok tt)
+pub writes_none : (files : Option Files) → WritesToHost [] files files (Ok tt)
 writes_none None = record { told = tt }
 writes_none (Some files) = record { told = (files, refl, λ name. refl) }
 
 both : (front back : List Written) (old mid new : Files) (result : Result (Unit {0}) WriteFault) → ((name : List ℕ) → mid name ≡ after_writes front old name)
-    → WritesFiles back mid new result → WritesFiles (front ++ back) old new result
+    → WritesAllFiles back mid new result → WritesAllFiles (front ++ back) old new result
 both front back old mid new (Ok x) first second =
     λ name. second name ∙ (after_same back mid (after_writes front old) first name ∙ sym (after_both front back old name))
 both front back old mid new (Err writing.Memory) first second = record {
@@ -74,14 +74,14 @@ both front back old mid new (Err writing.Failed) first second = record {
   others = λ name other. second.others name other ∙ (after_same second.before mid (after_writes front old) first name ∙ sym (after_both front second.before old name));
 }
 
-pub writes_then : (front back : List Written) (old mid new : Option Files) (done : Unit {0}) (result : Result (Unit {0}) WriteFault) → Writes front old mid (Ok done)
-    → Writes back mid new result → Writes (front ++ back) old new result
+pub writes_then : (front back : List Written) (old mid new : Option Files) (done : Unit {0}) (result : Result (Unit {0}) WriteFault) → WritesToHost front old mid (Ok done)
+    → WritesToHost back mid new result → WritesToHost (front ++ back) old new result
 writes_then front back None mid new done result first second = record { told = tt }
 writes_then front back (Some old) mid new done result first second =
     let told = rw first.told.1 at second.told in
     record { told = (told.0, told.1, both front back old first.told.0 told.0 result first.told.2 told.2) }
 
-stop : (front back : List Written) (old new : Files) (fault : WriteFault) → WritesFiles front old new (Err fault) → WritesFiles (front ++ back) old new (Err fault)
+stop : (front back : List Written) (old new : Files) (fault : WriteFault) → WritesAllFiles front old new (Err fault) → WritesAllFiles (front ++ back) old new (Err fault)
 stop front back old new writing.Failed cut = record {
   before = cut.before;
   this = cut.this;
@@ -97,7 +97,7 @@ stop front back old new writing.Memory cut = record {
 }
 
 -- a refusal in some files is one in all
-pub writes_stop : (front back : List Written) (old new : Option Files) (fault : WriteFault) → Writes front old new (Err fault) → Writes (front ++ back) old new (Err fault)
+pub writes_stop : (front back : List Written) (old new : Option Files) (fault : WriteFault) → WritesToHost front old new (Err fault) → WritesToHost (front ++ back) old new (Err fault)
 writes_stop front back None new fault first = record { told = tt }
 writes_stop front back (Some old) new fault first = record { told = (first.told.0, first.told.1, stop front back old first.told.0 fault first.told.2) }
 

@@ -5,7 +5,7 @@ use Rattle.std.specs.Prelude.{map, filter}
 use Rattle.std.specs.List.{AllByRecursion, range_with_len}
 use Rattle.std.proofs.lemmas.List.{length-map}
 use Rattle.load_base.specs.Bytes.{same_bytes}
-use Rattle.load_base.specs.EqualityLaws.{equal_bytes}
+use Rattle.load_base.proofs.EqualityLemmas.{equal_bytes}
 use Rattle.load_base.specs.Host.{Files}
 use Rattle.load_base.specs.Listed.{Listed}
 use Rattle.load_base.specs.declared.sink.WriteFault.{WriteFault}
@@ -15,7 +15,7 @@ use Rattle.media_check.specs.HostNames.{loads_name, files_name, batches_name}
 use Rattle.media_check.specs.declared.built.Built.{Built}
 use Rattle.media_check.specs.declared.built.Placed.{Placed}
 use Rattle.media_build.specs.Accepted.{IsMemberOf}
-use Rattle.media_build.specs.HostWrites.{Written, Writes, WritesFiles, after_writes, written_list, written_body, is_of, written_member, written_files}
+use Rattle.media_build.specs.HostWrites.{Written, WritesToHost, WritesAllFiles, after_writes, written_list, written_body, is_of, written_member, written_files}
 use Rattle.media_build.specs.NoFindings.{body_view, built_view}
 use Rattle.media_build.specs.RecipeSets.{BodyView, BuiltView}
 use Rattle.media_build.specs.WrittenFolders.{IsNameIn, KeepsAllBut}
@@ -34,7 +34,7 @@ after_others (this ∷ later) files name apart =
     by true e = absurd (apart.0 ((equal_bytes name this.0).0 e))
     by false e = rw e refl
 
-others_have : (written : List Written) (old new : Files) (result : Result (Unit {0}) WriteFault) (name : List ℕ) → AllByRecursion (λ w. name ≢ w.0) written → WritesFiles written old new result
+others_have : (written : List Written) (old new : Files) (result : Result (Unit {0}) WriteFault) (name : List ℕ) → AllByRecursion (λ w. name ≢ w.0) written → WritesAllFiles written old new result
     → new name ≡ old name
 others_have written old new (Ok x) name apart wrote = wrote name ∙ after_others written old name apart
 others_have written old new (Err writing.Memory) name apart wrote =
@@ -87,7 +87,7 @@ each_written folder built =
 
 -- ---- so the others keep what they had
 
-pub others_are_kept : (folder : List ℕ) (built : Built) (old new : Option Files) (result : Result (Unit {0}) WriteFault) → Writes (written_files folder built) old new result
+pub others_are_kept : (folder : List ℕ) (built : Built) (old new : Option Files) (result : Result (Unit {0}) WriteFault) → WritesToHost (written_files folder built) old new result
     → ForSome old (λ files. KeepsAllBut (IsNameIn folder (built_view built)) files new)
 others_are_kept folder built None new result wrote = λ files told. absurd cc
 others_are_kept folder built (Some was) new result wrote = λ files told.

@@ -7,7 +7,7 @@ use Rattle.std.proofs.Math.ListN.{set}
 use Rattle.std.proofs.lemmas.List.{map-append, length-map}
 use Rattle.std.proofs.lemmas.List.Elements.{filter-append}
 use Rattle.load_base.specs.Bytes.{same_bytes}
-use Rattle.load_base.specs.EqualityLaws.{equal_bytes}
+use Rattle.load_base.proofs.EqualityLemmas.{equal_bytes}
 use Rattle.load_header.specs.Header.{HardwareAtView, hardware_at_view}
 use Rattle.load_header.specs.declared.header.HardwareAt.{HardwareAt}
 use Rattle.media_build.specs.Parts.{one_position, with_position, positioned, HasOneMore}

@@ -6,8 +6,8 @@ use Rattle.std.proofs.lemmas.List.Elements.{All-nil, All-cons}
 use Rattle.std.proofs.lemmas.List.Sums.{sum_by-cons}
 use Rattle.crc_fields.specs.CheckSums.{crc16_of}
 use Rattle.field_grammar.specs.Fields.{number_fields}
-use Rattle.field_grammar.specs.NumberLaws.{length_number_bytes}
-use Rattle.field_grammar.specs.SectionLaws.{size_more, size_number}
+use Rattle.field_grammar.proofs.NumberLemmas.{length_number_bytes}
+use Rattle.field_grammar.proofs.SectionLemmas.{size_more, size_number}
 use Rattle.field_grammar.specs.Spelling.{spelled_length}
 use Rattle.header_sections.specs.SectionFields.{user_fields, entries_fields}
 use Rattle.load_base.specs.Host.{Files, longest_file}
@@ -21,7 +21,7 @@ use Rattle.media_lists.specs.ListFields.{head_fields, identity_fields, list_size
 use Rattle.media_lists.specs.Loads.{load_body_fields}
 use Rattle.media_check.specs.HostNames.{host_media, list_names, listed_name, batches_name, whole_reading}
 use Rattle.media_check.specs.Openings as openings
-use Rattle.media_check.specs.Openings.{IsShort, total_of, largest_set, CanRead}
+use Rattle.media_check.specs.Openings.{IsShortOnHost, total_of, largest_set, CanRead}
 use Rattle.media_check.specs.Sets.{MemberView, lists_in}
 use Rattle.media_check.specs.declared.built.Built.{Built}
 use Rattle.media_check.specs.declared.built.Placed.{Placed}
@@ -83,7 +83,7 @@ short_batches_list lines member is in_set =
     omega (arith, size, list_length 0xB004 batch_body_fields (recipe_batches lines member))
 
 -- a list of batches that may be there
-short_where_some : (files : Files) (name : List ℕ) (batches : List RecipeBatchView) (bytes : List ℕ) → files name ≡ where_some batches bytes → length bytes ≤ longest_file → IsShort files name
+short_where_some : (files : Files) (name : List ℕ) (batches : List RecipeBatchView) (bytes : List ℕ) → files name ≡ where_some batches bytes → length bytes ≤ longest_file → IsShortOnHost files name
 short_where_some files name [] bytes has short = rw has (omega arith)
 short_where_some files name (batch ∷ batches) bytes has short = rw has short
 
@@ -111,23 +111,23 @@ abbrev IsThere : (folder : List ℕ) → Files → BodyView → Type 0
 IsThere folder files body = files (listed_name folder (listed_body body)) ≡ Some body.bytes
 
 module _ (folder : List ℕ) (files : Files) (sources : Sources) (lines : List RecipeLine) (has : HaveSet (host_media files folder) sources lines) (is : IsRecipe lines) (fits : SizesFit sources lines) (laws : FormatLaws) where
-  short_lists_of : (member : ℕ) → IsMemberOf (members_of lines) member → AllByRecursion (IsShort files) (list_names folder member)
+  short_lists_of : (member : ℕ) → IsMemberOf (members_of lines) member → AllByRecursion (IsShortOnHost files) (list_names folder member)
   short_lists_of member in_set =
       let loads = short_loads_list sources lines member is fits in_set in
       let listed = short_files_list sources lines member is in_set in
       let batches = short_batches_list lines member is in_set in (
-        rw (has.loads member in_set) loads,
-        (rw (has.files member in_set) listed, (short_where_some files (batches_name folder member) (batches_of lines) (batches_list_bytes lines member) (has.batches member in_set) batches, tt)),
+        rw (has.has.loads member in_set) loads,
+        (rw (has.has.files member in_set) listed, (short_where_some files (batches_name folder member) (batches_of lines) (batches_list_bytes lines member) (has.batches member in_set) batches, tt)),
       )
 
-  short_lists : (from count : ℕ) → 1 ≤ from → from + count ≤ members_of lines + 1 → AllByRecursion (IsShort files) (flat_map (list_names folder) (range_with_len from count))
+  short_lists : (from count : ℕ) → 1 ≤ from → from + count ≤ members_of lines + 1 → AllByRecursion (IsShortOnHost files) (flat_map (list_names folder) (range_with_len from count))
   short_lists from zero low high = tt
   short_lists from (suc count) low high =
       let in_set : IsMemberOf (members_of lines) from = record { first = low; last = omega (arith, high) } in
-      all_append (IsShort files) (list_names folder from) (flat_map (list_names folder) (range_with_len (from + 1) count)) (short_lists_of from in_set)
+      all_append (IsShortOnHost files) (list_names folder from) (flat_map (list_names folder) (range_with_len (from + 1) count)) (short_lists_of from in_set)
       (short_lists (from + 1) count (omega arith) (omega (arith, high)))
 
-  short_listed : (bodies : List BodyView) → AllByRecursion (λ body. IsThere folder files body × IsShortFile body) bodies → AllByRecursion (IsShort files) (map (listed_name folder) (map listed_body bodies))
+  short_listed : (bodies : List BodyView) → AllByRecursion (λ body. IsThere folder files body × IsShortFile body) bodies → AllByRecursion (IsShortOnHost files) (map (listed_name folder) (map listed_body bodies))
   short_listed [] all = tt
   short_listed (body ∷ bodies) all = let short = all.0.1 in (rw all.0.0 short, short_listed bodies all.1)
 
@@ -144,13 +144,13 @@ module _ (folder : List ℕ) (files : Files) (sources : Sources) (lines : List R
       let bodies : List BodyView = recipe_bodies sources lines in
       let first : IsMemberOf (members_of lines) 1 = record { first = omega arith; last = start.members.first } in
       let rest : 2 + (members_of lines - 1) ≤ members_of lines + 1 = omega (arith, start.members.first) in
-      let lists = all_append (IsShort files) (list_names folder 1) (flat_map (list_names folder) (range_with_len 2 (members_of lines - 1))) (short_lists_of 1 first)
+      let lists = all_append (IsShortOnHost files) (list_names folder 1) (flat_map (list_names folder) (range_with_len 2 (members_of lines - 1))) (short_lists_of 1 first)
       (short_lists 2 (members_of lines - 1) (omega arith) rest) in
-      let listed = short_listed bodies (all_both (IsThere folder files) IsShortFile bodies has.bodies (short_bodies sources lines laws is fits)) in
+      let listed = short_listed bodies (all_both (IsThere folder files) IsShortFile bodies has.has.bodies (short_bodies sources lines laws is fits)) in
       record {
-        lists = by_index (IsShort files) (list_names folder 1 ++ flat_map (list_names folder) (range_with_len 2 (members_of lines - 1))) lists;
-        listed = by_index (IsShort files) (map (listed_name folder) (map listed_body bodies)) listed;
-        together = omega (arith, small, total_listed bodies has.bodies);
+        lists = by_index (IsShortOnHost files) (list_names folder 1 ++ flat_map (list_names folder) (range_with_len 2 (members_of lines - 1))) lists;
+        listed = by_index (IsShortOnHost files) (map (listed_name folder) (map listed_body bodies)) listed;
+        together = omega (arith, small, total_listed bodies has.has.bodies);
       }
 
   -- nothing of it is refused as too long or too large

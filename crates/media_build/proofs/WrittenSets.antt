@@ -8,7 +8,7 @@ use Rattle.std.proofs.lemmas.Fmt.{decimal_by_steps, decimal_injective}
 use Rattle.std.proofs.lemmas.List.{append_cancel_left, map-append, length-map}
 use Rattle.std.proofs.lemmas.List.FromFn.{length-map-range_with_len}
 use Rattle.load_base.specs.Bytes.{same_bytes}
-use Rattle.load_base.specs.EqualityLaws.{equal_bytes}
+use Rattle.load_base.proofs.EqualityLemmas.{equal_bytes}
 use Rattle.load_base.specs.Host.{Files}
 use Rattle.load_base.specs.Listed.{Listed}
 use Rattle.media_check.specs.HostNames.{host_name, host_media, batches_name}
@@ -17,7 +17,7 @@ use Rattle.media_check.specs.declared.built.Placed.{Placed}
 use Rattle.media_build.specs.Accepted.{IsMemberOf, IsFileLine, IsRecipe}
 use Rattle.media_build.specs.HostWrites.{Written, after_writes, written_list, written_body, is_of, written_bodies, written_member, written_files}
 use Rattle.media_build.specs.Lines.{members_of}
-use Rattle.media_build.specs.NoFindings.{body_view, built_view, HaveSet}
+use Rattle.media_build.specs.NoFindings.{body_view, built_view, HaveBatches, HaveFiles, HaveSet}
 use Rattle.media_build.specs.RecipeSets.{Sources, RecipeLoadView, RecipeBatchView, BodyView, BuiltView, batches_of, batch_body, batches_list_bytes, batches_list_of, where_some, loads_of, data_of, support_of, files_of, header_bytes, header_of, file_body, load_bodies, recipe_bodies, loads_list_bytes, files_list_bytes, recipe_set}
 use Rattle.media_build.specs.Recipes.{ends_with, is_header_name, is_body_name, is_batch_name}
 use Rattle.media_build.specs.WrittenFolders.{HasNoOtherBatches}
@@ -395,12 +395,13 @@ of_list : (P : Written → Type 0) (name : List ℕ) (list : Option (List ℕ)) 
 of_list P name None bytes e all = absurd cc
 of_list P name (Some other) bytes e all = let same : other ≡ bytes = cc in subst (λ (b : List ℕ). P (name, b)) same all.0
 
--- a folder into which the set was written has it
-pub written_folder_has : (folder : List ℕ) (sources : Sources) (lines : List RecipeLine) (built : Built) (old new : Files) → IsRecipe lines → HasNoOtherBatches folder old lines
+-- a folder into which the set was written has its files, and its batches where no others stood there
+written_folder : (folder : List ℕ) (sources : Sources) (lines : List RecipeLine) (built : Built) (old new : Files) → IsRecipe lines
     → built_view built ≡ recipe_set sources lines
-    → ((name : List ℕ) → new name ≡ after_writes (written_files folder built) old name) → HaveSet (host_media new folder) sources lines
+    → ((name : List ℕ) → new name ≡ after_writes (written_files folder built) old name)
+    → HaveFiles (host_media new folder) sources lines × (HasNoOtherBatches folder old lines → HaveBatches (host_media new folder) lines)
 unfolding written_files recipe_set
-written_folder_has folder sources lines built old new is fresh same written =
+written_folder folder sources lines built old new is same written =
     let start = has_start lines is in
     let few : members_of lines ≤ 255 = start.members.last in
     let bodies : List BodyView = recipe_bodies sources lines in
@@ -417,21 +418,22 @@ written_folder_has folder sources lines built old new is fresh same written =
     let own = λ (member : ℕ). written_list (name_in folder member (codes "BATCHES.LUM")) (batches_list_of lines member) in
     let put = λ (member : ℕ). map (put_in folder member) (filter (λ (body : BodyView). body.member == member) bodies) in
     let no_lists_here = no_lists sources lines is in
-    let none = λ (empty : batches_of lines ≡ []) (member : ℕ) (in_set : IsMemberOf (members_of lines) member).
+    let none = λ (fresh : HasNoOtherBatches folder old lines) (empty : batches_of lines ≡ []) (member : ℕ) (in_set : IsMemberOf (members_of lines) member).
     left (batches_name folder member)
     ∙ (untouched these old (batches_name folder member)
     (no_batches_among folder (loads_list_bytes lines) (files_list_bytes sources lines) (batches_list_of lines) bodies member 1 (members_of lines) (omega (arith, few, in_set.last)) (omega (arith, few))
     (λ m. ap (λ (batches : List RecipeBatchView). where_some batches (batches_list_bytes lines m)) empty) no_lists_here)
-    ∙ fresh empty member in_set) in
-    record {
-      loads = λ member in_set. (each member in_set).0;
-      files = λ member in_set. (each member in_set).1.0;
-      batches = λ member in_set. by (batches_of lines) refl member (λ empty. none empty member in_set)
-          (λ bytes some. of_list (λ w. new w.0 ≡ Some w.1) (batches_name folder member) (batches_list_of lines member) bytes some (first_part (λ w. new w.0 ≡ Some w.1) (own member) (put member) (each member in_set).1.1));
-      bodies = of_bodies (λ member body. new (name_in folder member body.name) ≡ Some body.bytes) (members_of lines) bodies (sound_bodies sources lines is)
-          (λ member in_set. all_of_map (λ (w : Written). new w.0 ≡ Some w.1) (put_in folder member) (filter (λ (body : BodyView). body.member == member) bodies)
-          (second_part (λ w. new w.0 ≡ Some w.1) (own member) (put member) (each member in_set).1.1));
-    }
+    ∙ fresh empty member in_set) in (
+      record {
+        loads = λ member in_set. (each member in_set).0;
+        files = λ member in_set. (each member in_set).1.0;
+        bodies = of_bodies (λ member body. new (name_in folder member body.name) ≡ Some body.bytes) (members_of lines) bodies (sound_bodies sources lines is)
+            (λ member in_set. all_of_map (λ (w : Written). new w.0 ≡ Some w.1) (put_in folder member) (filter (λ (body : BodyView). body.member == member) bodies)
+            (second_part (λ w. new w.0 ≡ Some w.1) (own member) (put member) (each member in_set).1.1));
+      },
+      λ fresh member in_set. by (batches_of lines) refl member (λ empty. none fresh empty member in_set)
+          (λ bytes some. of_list (λ w. new w.0 ≡ Some w.1) (batches_name folder member) (batches_list_of lines member) bytes some (first_part (λ w. new w.0 ≡ Some w.1) (own member) (put member) (each member in_set).1.1)),
+    )
   where
     by : (batches : List RecipeBatchView) → batches_of lines ≡ batches → (member : ℕ) → (batches_of lines ≡ [] → new (batches_name folder member) ≡ None)
         → ((bytes : List ℕ) → batches_list_of lines member ≡ Some bytes → new (batches_name folder member) ≡ Some bytes)
@@ -440,3 +442,14 @@ written_folder_has folder sources lines built old new is fresh same written =
     by (first ∷ others) e member none some =
         let there : batches_list_of lines member ≡ Some (batches_list_bytes lines member) = ap (λ (batches : List RecipeBatchView). where_some batches (batches_list_bytes lines member)) e in
         some (batches_list_bytes lines member) there ∙ sym there
+
+pub written_folder_files : (folder : List ℕ) (sources : Sources) (lines : List RecipeLine) (built : Built) (old new : Files) → IsRecipe lines
+    → built_view built ≡ recipe_set sources lines
+    → ((name : List ℕ) → new name ≡ after_writes (written_files folder built) old name) → HaveFiles (host_media new folder) sources lines
+written_folder_files folder sources lines built old new is same written = (written_folder folder sources lines built old new is same written).0
+
+pub written_folder_has : (folder : List ℕ) (sources : Sources) (lines : List RecipeLine) (built : Built) (old new : Files) → IsRecipe lines → HasNoOtherBatches folder old lines
+    → built_view built ≡ recipe_set sources lines
+    → ((name : List ℕ) → new name ≡ after_writes (written_files folder built) old name) → HaveSet (host_media new folder) sources lines
+written_folder_has folder sources lines built old new is fresh same written =
+    let both = written_folder folder sources lines built old new is same written in record { has = both.0; batches = both.1 fresh }

@@ -21,7 +21,7 @@ use Rattle.media_build.specs.declared.statements.TargetLine.{TargetLine}
 -- ---- what a line says
 
 -- 1 to this many bytes 0x21 to 0x7E
-pub record IsWord (most : ℕ) (word : List ℕ) : Type 0 where
+pub record IsRecipeWord (most : ℕ) (word : List ℕ) : Type 0 where
   pub some : 1 ≤ length word
   pub few : length word ≤ most
   pub graphic : AllGood is_graphic word
@@ -38,15 +38,15 @@ pub record IsLoadLine (members : ℕ) (load : LoadLine) : Type 0 where
   pub header : is_header_name load.name ≡ true
   pub member : IsMemberOf members load.member
   pub type_id : load.type_id < 2 ^ 16
-  pub type_name : IsWord 64 load.type_name
+  pub type_name : IsRecipeWord 64 load.type_name
 
 -- a file whose name ends neither with `.LUH` nor with `.LUM`, in one of the members
 pub record IsFileLine (members : ℕ) (file : FileLine) : Type 0 where
   pub name : IsName file.name
   pub body : is_body_name file.name ≡ true
   pub member : IsMemberOf members file.member
-  pub source : IsWord 150 file.source
-  pub part : IsWord 64 file.part
+  pub source : IsRecipeWord 150 file.source
+  pub part : IsRecipeWord 64 file.part
 
 -- some bytes, an even number of them
 pub record IsUserLine (bytes : List ℕ) : Type 0 where
@@ -70,17 +70,17 @@ pub record IsTargetLine (target : TargetLine) : Type 0 where
   pub parts : AllByRecursion IsPartNumberText target.parts
 
 -- a line of a recipe of a set of this many members
-abbrev pub IsSound : (members : ℕ) → Statement → Type 0
-IsSound members (Set part) = IsPartNumberText part
-IsSound members (Members count) = IsMemberOf 255 count
-IsSound members (Load load) = IsLoadLine members load
-IsSound members (Hardware id) = IsWord 64 id
-IsSound members (Position hardware position) = IsWord 64 hardware × IsWord 64 position
-IsSound members (Data file) = IsFileLine members file
-IsSound members (Support file) = IsFileLine members file
-IsSound members (User bytes) = IsUserLine bytes
-IsSound members (Batch batch) = IsBatchLine members batch
-IsSound members (Target target) = IsTargetLine target
+abbrev pub IsSoundLine : (members : ℕ) → Statement → Type 0
+IsSoundLine members (Set part) = IsPartNumberText part
+IsSoundLine members (Members count) = IsMemberOf 255 count
+IsSoundLine members (Load load) = IsLoadLine members load
+IsSoundLine members (Hardware id) = IsRecipeWord 64 id
+IsSoundLine members (Position hardware position) = IsRecipeWord 64 hardware × IsRecipeWord 64 position
+IsSoundLine members (Data file) = IsFileLine members file
+IsSoundLine members (Support file) = IsFileLine members file
+IsSoundLine members (User bytes) = IsUserLine bytes
+IsSoundLine members (Batch batch) = IsBatchLine members batch
+IsSoundLine members (Target target) = IsTargetLine target
 
 -- ---- in which order
 
@@ -109,7 +109,7 @@ pub record AreBatches (lines : List RecipeLine) : Type 0 where
   pub begun : BeginWithBatch lines
 
 -- `set PART`, `members N`, a load, lines of loads alone, and then lines of batches
-pub record IsInOrder (lines : List RecipeLine) : Type 0 where
+pub record AreLinesInOrder (lines : List RecipeLine) : Type 0 where
   pub numbers : ℕ × ℕ × ℕ
   pub set : List ℕ
   pub members : ℕ
@@ -141,8 +141,8 @@ HasItsLoads lines statement = ⊤
 -- Lines in their order, each of them sound, with at most 1,024 files, of which no two have one name. Targets get no other
 -- loads than the recipe's.
 pub record IsRecipe (lines : List RecipeLine) : Type 0 where
-  pub order : IsInOrder lines
-  pub each : AllByRecursion (λ line. IsSound (members_of lines) line.statement) lines
+  pub order : AreLinesInOrder lines
+  pub each : AllByRecursion (λ line. IsSoundLine (members_of lines) line.statement) lines
   pub names : IsDistinct same_bytes (names_of lines)
   pub few : length (names_of lines) ≤ 1024
   pub loads : AllByRecursion IsSmallLoad (loads_of lines)

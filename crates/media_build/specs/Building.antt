@@ -14,7 +14,7 @@ use Rattle.media_lists.specs.Loads.{LoadsListView, IsLoadsList, load_body_fields
 use Rattle.media_lists.specs.declared.lists.LoadsList.{LoadsList}
 use Rattle.media_check.specs.BuiltSets.{HasShortBodies}
 use Rattle.media_check.specs.Kept.{contents}
-use Rattle.media_check.specs.Openings.{IsShort, length_on_host, total_of, largest_set}
+use Rattle.media_check.specs.Openings.{IsShortOnHost, length_on_host, total_of, largest_set}
 use Rattle.media_check.specs.declared.built.Built.{Built}
 use Rattle.media_check.specs.declared.built.Placed.{Placed}
 use Rattle.media_build.specs.NoFindings.{body_view, built_view}
@@ -127,7 +127,7 @@ sources_in files name = contents (files name)
 -- a host has a file of this name, of at most 16,777,215 bytes
 pub record IsThere (files : Files) (name : List ℕ) : Type 0 where
   pub some : files name ≢ None
-  pub short : IsShort files name
+  pub short : IsShortOnHost files name
 
 -- Each of these sources is there, and with this many other bytes they aren't too large.
 pub record CanTake (files : Files) (others : ℕ) (names : List (List ℕ)) : Type 0 where
@@ -193,7 +193,7 @@ Builds lines (Err Failed) files = Unit {0}
 Builds lines (Err Memory) files = Unit {0}
 
 -- No body has more than 16,777,215 bytes, and all together have at most 268,435,456.
-pub record IsSmall (built : Built) : Type 0 where
+pub record IsSmallSet (built : Built) : Type 0 where
   pub bodies : HasShortBodies built
   pub together : sum_by (λ body. length body.bytes.items) built.bodies.items ≤ largest_set
 

@@ -69,15 +69,15 @@ pub record IsPrefixWritten (written : List Written) (old new : Files) : Type 0 w
   pub have : (name : List ℕ) → new name ≡ after_writes before old name
 
 -- All were written in their order, or the host failed at one of them, or memory ran out before one of them.
-abbrev pub WritesFiles : List Written → Files → Files → Result (Unit {0}) WriteFault → Type 0
-WritesFiles written old new (Ok x) = (name : List ℕ) → new name ≡ after_writes written old name
-WritesFiles written old new (Err writing.Failed) = IsCutShort written old new
-WritesFiles written old new (Err writing.Memory) = IsPrefixWritten written old new
+abbrev pub WritesAllFiles : List Written → Files → Files → Result (Unit {0}) WriteFault → Type 0
+WritesAllFiles written old new (Ok x) = (name : List ℕ) → new name ≡ after_writes written old name
+WritesAllFiles written old new (Err writing.Failed) = IsCutShort written old new
+WritesAllFiles written old new (Err writing.Memory) = IsPrefixWritten written old new
 
 -- The same of a host that may not tell its files; it goes on telling them.
 abbrev pub WritesTold : List Written → Option Files → Option Files → Result (Unit {0}) WriteFault → Type 0
 WritesTold written None new result = Unit {0}
-WritesTold written (Some old) new result = (files : Files) × (new ≡ Some files) × WritesFiles written old files result
+WritesTold written (Some old) new result = (files : Files) × (new ≡ Some files) × WritesAllFiles written old files result
 
-pub record Writes (written : List Written) (old new : Option Files) (result : Result (Unit {0}) WriteFault) : Type 0 where
+pub record WritesToHost (written : List Written) (old new : Option Files) (result : Result (Unit {0}) WriteFault) : Type 0 where
   pub told : WritesTold written old new result

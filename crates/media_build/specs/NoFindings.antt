@@ -5,7 +5,7 @@ use Rattle.load_base.specs.Host.{longest_file}
 use Rattle.load_header.specs.HeaderFields.{header_size}
 use Rattle.media_lists.specs.ListFields.{list_size}
 use Rattle.media_lists.specs.Loads.{load_body_fields}
-use Rattle.media_check.specs.Sets.{Media}
+use Rattle.media_check.specs.Sets.{MediaBytes}
 use Rattle.media_check.specs.declared.built.Built.{Built}
 use Rattle.media_check.specs.declared.built.Placed.{Placed}
 use Rattle.media_build.specs.Accepted.{IsMemberOf}
@@ -44,9 +44,17 @@ built_view built = record {
   bodies = map body_view built.bodies.items;
 }
 
--- Media have the set of a recipe: the lists of each member, and for each entry of FILES.LUM its file.
-pub record HaveSet (media : Media) (sources : Sources) (lines : List RecipeLine) : Type 0 where
+-- Media have the loads and the files of a recipe's set: both lists of each member, and for each entry of FILES.LUM its file.
+pub record HaveFiles (media : MediaBytes) (sources : Sources) (lines : List RecipeLine) : Type 0 where
   pub loads : (member : ℕ) → IsMemberOf (members_of lines) member → media.loads_list member ≡ Some (loads_list_bytes lines member)
   pub files : (member : ℕ) → IsMemberOf (members_of lines) member → media.files_list member ≡ Some (files_list_bytes sources lines member)
-  pub batches : (member : ℕ) → IsMemberOf (members_of lines) member → media.batches_list member ≡ batches_list_of lines member
   pub bodies : AllByRecursion (λ body. media.listed (listed_body body) ≡ Some body.bytes) (recipe_bodies sources lines)
+
+-- each member's list of batches is the recipe's
+abbrev pub HaveBatches : MediaBytes → List RecipeLine → Type 0
+HaveBatches media lines = (member : ℕ) → IsMemberOf (members_of lines) member → media.batches_list member ≡ batches_list_of lines member
+
+-- Media have the set of a recipe.
+pub record HaveSet (media : MediaBytes) (sources : Sources) (lines : List RecipeLine) : Type 0 where
+  pub has : HaveFiles media sources lines
+  pub batches : HaveBatches media lines

@@ -8,7 +8,7 @@ use Rattle.media_check.specs.Openings.{CanRead}
 use Rattle.media_check.specs.Sets.{lists_in, set_in}
 use Rattle.media_build.specs.Accepted.{IsMemberOf}
 use Rattle.media_build.specs.Lines.{members_of}
-use Rattle.media_build.specs.NoFindings.{HaveSet}
+use Rattle.media_build.specs.NoFindings.{HaveFiles, HaveSet}
 use Rattle.media_build.specs.RecipeSets.{Sources, BodyView, BuiltView, batches_of}
 use Rattle.media_build.specs.declared.statements.RecipeLine.{RecipeLine}
 
@@ -45,3 +45,9 @@ pub record IsCleanFolder (folder : List ℕ) (files : Files) : Type 0 where
 pub record HoldsSet (folder : List ℕ) (files : Files) (sources : Sources) (lines : List RecipeLine) : Type 0 where
   pub has : HaveSet (host_media files folder) sources lines
   pub sound : IsCleanFolder folder files
+
+-- A folder has what was written of the set of a recipe, each list and file with its bytes; and where no other set's list of
+-- batches stood there, it has the whole set, and nothing is wrong.
+pub record HoldsWritten (folder : List ℕ) (old new : Files) (sources : Sources) (lines : List RecipeLine) : Type 0 where
+  pub has : HaveFiles (host_media new folder) sources lines
+  pub set : HasNoOtherBatches folder old lines → HoldsSet folder new sources lines

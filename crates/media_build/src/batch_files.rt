@@ -9,7 +9,7 @@ ghost use Rattle.media_build.specs.NoFindings.{body_view};
 ghost use Rattle.media_build.specs.RecipeSets.{batch_body, batch_of as batch_said, batches_of};
 ghost use Rattle.media_build.specs.RecipeSets.{batch_target as target_said, targets_in};
 
-use crate::batches::{BatchPart, Batches};
+use crate::batches::{BatchPart, RecipeBatches};
 use crate::statements::{RecipeLine, Statement, TargetLine};
 use batch_lists::{Batch, BatchTarget, batch_laws};
 use load_base::{List, NoMemory};
@@ -27,7 +27,7 @@ pub(crate) fn batch_files(
         ≡ map batch_body (batches_of lines.now)) }
     ensures length { IfOk result (λ files. files.1 ≡ batches_length (batches_of lines.now)) }
 {
-    let mut batches = Batches::new(lines);
+    let mut batches = RecipeBatches::new(lines);
     let mut files = Vec::new(alloc);
     let mut length = 0;
     while let Some(batch) = batches.next() {
@@ -38,7 +38,7 @@ pub(crate) fn batch_files(
     Ok((files, length))
 }
 
-// The file of a batch.
+/// The file of a batch.
 fn batch_file(alloc: Global, part: &BatchPart) -> Result<Placed, NoMemory>
     requires { IsBatch (batch_said part.now) }
     ensures file { IfOk result (λ file. body_view file ≡ batch_body part.now) }
@@ -66,7 +66,7 @@ fn batch_of(alloc: Global, part: &BatchPart) -> Result<Batch, NoMemory>
     })
 }
 
-// The targets of these lines.
+/// The targets of these lines.
 fn targets_of(alloc: Global, lines: &[RecipeLine]) -> Result<List<BatchTarget>, NoMemory>
     ensures { IfOk result (λ targets. map batch_target_view targets.items
         ≡ map target_said (flat_map (λ line. targets_in line.statement) lines.now)) }
@@ -78,7 +78,7 @@ fn targets_of(alloc: Global, lines: &[RecipeLine]) -> Result<List<BatchTarget>, 
     Ok(targets)
 }
 
-// Adds the target of a line, if it has one.
+/// Adds the target of a line, if it has one.
 fn put_target(
     alloc: Global,
     statement: &Statement,

@@ -46,11 +46,11 @@ impl<'a> BatchPart<'a> {
 
 /// The batches that are left. A contract sees it as their list.
 #[derive(Drop)]
-pub(crate) struct Batches<'a> {
+pub(crate) struct RecipeBatches<'a> {
     rest: &'a [RecipeLine],
 }
 
-impl<'a> Model for Batches<'a> {
+impl<'a> Model for RecipeBatches<'a> {
     ghost use Rattle.std.specs.Prelude.{List};
     ghost use Rattle.media_build.specs.RecipeSets.{RecipeBatchView, batches_of};
 
@@ -59,12 +59,12 @@ impl<'a> Model for Batches<'a> {
     ghost view = { λ batches. batches_of batches.rest.now };
 }
 
-impl<'a> Batches<'a> {
+impl<'a> RecipeBatches<'a> {
     /// All batches of these lines.
-    pub(crate) fn new(lines: &'a [RecipeLine]) -> Batches<'a>
+    pub(crate) fn new(lines: &'a [RecipeLine]) -> RecipeBatches<'a>
         ensures { result ≡ batches_of lines.now }
     {
-        Batches { rest: lines }
+        RecipeBatches { rest: lines }
     }
 
     /// Takes the first batch that is left.
@@ -83,7 +83,7 @@ impl<'a> Batches<'a> {
     }
 }
 
-// The first line that begins a batch: what it says, and the lines after it.
+/// The first line that begins a batch: what it says, and the lines after it.
 fn first_batch(lines: &[RecipeLine]) -> Option<(&BatchLine, &[RecipeLine])>
     ensures { MatchOption result (batches_of lines.now ≡ []) (λ found. batches_of lines.now
         ≡ batch_at (Batch found.0.now) found.1.now ++ batches_of found.1.now) }
@@ -96,7 +96,7 @@ fn first_batch(lines: &[RecipeLine]) -> Option<(&BatchLine, &[RecipeLine])>
     None
 }
 
-// The targets that stand before any other line.
+/// The targets that stand before any other line.
 fn targets_before(lines: &[RecipeLine]) -> &[RecipeLine]
     ensures { result.now ≡ take_while (λ line. is_target_line line.statement) lines.now }
 {

@@ -58,8 +58,8 @@ pub(crate) fn read_bodies<H: Host>(
     Ok(bodies)
 }
 
-// Reads the sources of a load beside `others` bytes, and adds its files. Gives the bytes of all
-// too.
+/// Reads the sources of a load beside `others` bytes, and adds its files. Gives the bytes of all
+/// too.
 fn read_load<H: Host>(
     alloc: Global,
     host: &mut H,
@@ -83,7 +83,7 @@ fn read_load<H: Host>(
     Ok((bodies, total))
 }
 
-// The files of a load, after those before them.
+/// The files of a load, after those before them.
 #[tactic(auto, unfolding(crate::specs::Parts::bodies_with))]
 fn add_load(
     alloc: Global,
@@ -108,7 +108,7 @@ fn add_load(
     files.add_to(bodies)
 }
 
-// The whole header of a load with these files.
+/// The whole header of a load with these files.
 fn header_bytes(alloc: Global, load: &LoadPart, files: &LoadFiles) -> Result<Bytes, NoMemory>
     requires data_files { All IsShortSource files.now.data_files }
     requires support_files { All IsShortSource files.now.support_files }
@@ -124,7 +124,7 @@ fn header_bytes(alloc: Global, load: &LoadPart, files: &LoadFiles) -> Result<Byt
     header.encode(alloc)
 }
 
-// The load CRC of a header that has 0 in its place, and of the files after it.
+/// The load CRC of a header that has 0 in its place, and of the files after it.
 fn load_crc(start: &[u8], files: &LoadFiles) -> u32
     requires { 4 ≤ length start.now }
     ensures { result ≡ crc32_of (take (length start.now - 4) start.now

@@ -8,7 +8,7 @@ ghost use Rattle.batch_lists.specs.Batches.{IsBatchesList};
 ghost use Rattle.media_lists.specs.Files.{IsFilesList};
 ghost use Rattle.media_lists.specs.Loads.{IsLoadsList, loads_list_view};
 ghost use Rattle.media_build.specs.Building.{AnswersSizes, Builds, HasBuildCause, HasLists};
-ghost use Rattle.media_build.specs.Building.{IsSmall, batches_beside, files_beside, of_member};
+ghost use Rattle.media_build.specs.Building.{IsSmallSet, batches_beside, files_beside, of_member};
 ghost use Rattle.media_build.specs.RecipeSets.{batches_of};
 
 use crate::batch_files::batch_files;
@@ -37,7 +37,7 @@ pub fn build<H: Host>(alloc: Global, recipe: &Recipe, host: &mut H) -> Result<Bu
     ensures sizes { AnswersSizes recipe.now result }
     // With Ok the set that the recipe names; else the first source that is refused.
     ensures builds { ForSome (H.files host.old) (Builds recipe.now result) }
-    ensures small { IfOk result IsSmall }
+    ensures small { IfOk result IsSmallSet }
     ensures sound { ForSome (H.files host.old) (λ files. IfOk result (λ built.
         findings_of (set_in (built_media built)) ≡ [])) }
     // Whatever it answers.
@@ -54,7 +54,7 @@ pub fn build<H: Host>(alloc: Global, recipe: &Recipe, host: &mut H) -> Result<Bu
     Ok(with_lists(alloc, lines, loads, bodies)?)
 }
 
-// The files of loads, and then those of batches.
+/// The files of loads, and then those of batches.
 fn joined(bodies: List<Placed>, batches: Vec<Placed>) -> Result<List<Placed>, NoMemory>
     ensures { IfOk result (λ all. all.items ≡ bodies.items ++ batches.items) }
 {
@@ -65,8 +65,8 @@ fn joined(bodies: List<Placed>, batches: Vec<Placed>) -> Result<List<Placed>, No
     Ok(bodies)
 }
 
-// The set of these files, with this list of loads in each member, and one of the batches of these
-// lines, if there are any.
+/// The set of these files, with this list of loads in each member, and one of the batches of these
+/// lines, if there are any.
 fn with_lists(
     alloc: Global,
     lines: &[RecipeLine],

@@ -42,7 +42,7 @@ pub(crate) fn header_of(
     })
 }
 
-// Files, as a header names them.
+/// Files, as a header names them.
 fn entries_of(alloc: Global, files: &[SourceFile]) -> Result<List<FileEntry>, NoMemory>
     requires { All IsShortSource files.now }
     ensures { IfOk result (λ entries. entries.items ≡ map file_entry_of files.now) }
@@ -89,7 +89,7 @@ fn put_hardware(alloc: Global, statement: &Statement, list: &mut List<Text>) -> 
     Ok(())
 }
 
-// The user data of a load.
+/// The user data of a load.
 fn user_of(alloc: Global, own: &[RecipeLine]) -> Result<Bytes, NoMemory>
     ensures { IfOk result (λ bytes. bytes.items ≡ flat_map user_in (statements own.now)) }
 {

@@ -74,7 +74,7 @@ pub(crate) fn may_stand(before: usize, stage: Stage, keyword: Keyword) -> bool
     }
 }
 
-// No batch has begun.
+/// No batch has begun.
 fn is_among_loads(stage: Stage) -> bool
     ensures { result ≡ is_among stage }
 {

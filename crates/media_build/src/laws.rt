@@ -10,17 +10,17 @@ ghost use Rattle.media_build.specs.Building.{CanTake, HaveSizes, IsFirstRefused,
 ghost use Rattle.media_build.specs.declared.building_fault.BuildFault.{BuildFault};
 ghost use Rattle.media_build.specs.declared.building_fault.BuildFault.TheVariants as build_faults;
 ghost use Rattle.media_build.specs.Generator.{generated, state_at};
-ghost use Rattle.media_build.specs.Building.{AnswersSizes, Builds, IsSmall, sources_in};
+ghost use Rattle.media_build.specs.Building.{AnswersSizes, Builds, IsSmallSet, sources_in};
 ghost use Rattle.media_build.specs.GeneratedSet.{generated_recipe, generated_lines};
 ghost use Rattle.media_build.specs.GeneratedSet.{generated_load_view, generated_sources};
 ghost use Rattle.media_build.specs.Recipes.{IsFirstWrong, lines_said, recipe_said, statement_said};
 ghost use Rattle.media_build.specs.Recipes.{words_said};
 ghost use Rattle.media_build.specs.WorkedSet.{one_batch_recipe, one_load_recipe};
-ghost use Rattle.media_build.specs.HostWrites.{WritesFiles, written_files};
+ghost use Rattle.media_build.specs.HostWrites.{WritesAllFiles, written_files};
 ghost use Rattle.media_build.specs.NoFindings.{HasShortSources, HaveSet, SizesFit, built_view};
 ghost use Rattle.media_build.specs.RecipeSets.{Sources, header_start, loads_of, recipe_loads};
 ghost use Rattle.media_build.specs.RecipeSets.{recipe_set};
-ghost use Rattle.media_build.specs.WrittenFolders.{HasNoOtherBatches, HoldsSet};
+ghost use Rattle.media_build.specs.WrittenFolders.{HasNoOtherBatches, HoldsWritten};
 ghost use Rattle.media_build.specs.declared.fault.RecipeFault.{RecipeFault};
 ghost use Rattle.media_build.specs.declared.fault.RecipeFault.TheVariants as faults;
 ghost use Rattle.media_build.specs.declared.keywords.Keyword.TheVariants as keywords;
@@ -33,7 +33,7 @@ ghost use Rattle.media_check.specs.BuiltSets.{built_media};
 ghost use Rattle.media_check.specs.HostNames.{host_media, whole_reading};
 ghost use Rattle.media_check.specs.Openings.{CanRead, largest_set};
 ghost use Rattle.media_check.specs.Findings.{findings_of};
-ghost use Rattle.media_check.specs.Sets.{Media, lists_in, set_in};
+ghost use Rattle.media_check.specs.Sets.{MediaBytes, lists_in, set_in};
 ghost use Rattle.media_check.specs.declared.built.Built.{Built};
 ghost use Rattle.media_lists.specs.Loads.{IsLoadsList};
 
@@ -69,10 +69,11 @@ pub fn a_built_set_has_no_finding()
     ensures written { (folder : List ℕ) (sources : Sources) (lines : List RecipeLine)
         (built : Built) (old new : Files) → IsRecipe lines → SizesFit sources lines
         → HasNoOtherBatches folder old lines → built_view built ≡ recipe_set sources lines
-        → WritesFiles (written_files folder built) old new (Ok tt)
+        → WritesAllFiles (written_files folder built) old new (Ok tt)
         → findings_of (set_in (host_media new folder)) ≡ [] }
     // As any media tell it that have it.
-    ensures told { (media : Media) (sources : Sources) (lines : List RecipeLine) → IsRecipe lines
+    ensures told { (media : MediaBytes) (sources : Sources) (lines : List RecipeLine)
+        → IsRecipe lines
         → SizesFit sources lines → HaveSet media sources lines
         → findings_of (set_in media) ≡ [] }
 {
@@ -93,7 +94,7 @@ pub fn a_written_set_can_be_read()
         (built : Built) (old new : Files) → IsRecipe lines → SizesFit sources lines
         → HasNoOtherBatches folder old lines → built_view built ≡ recipe_set sources lines
         → sum_by (λ body. length body.bytes.items) built.bodies.items ≤ largest_set
-        → WritesFiles (written_files folder built) old new (Ok tt)
+        → WritesAllFiles (written_files folder built) old new (Ok tt)
         → CanRead new (whole_reading folder (lists_in (host_media new folder) 1)) }
 {
     header_laws();
@@ -115,23 +116,22 @@ pub fn what_is_built_has_no_finding()
 }
 
 /// A folder of a host that tells its files has the set that was built or made, once it was written
-/// there: each list and file has its bytes, the folder can be read, and nothing is wrong there.
-/// Where it has no batches, no other set's list of batches may stand there, since writing takes no
-/// file away.
+/// there: each list and file has its bytes; and the folder can be read, and nothing is wrong there,
+/// unless the set has no batches and another set's list of batches stood there, since writing takes
+/// no file away.
 // For the proof: does nothing.
 pub fn a_written_folder_holds_the_set()
     // The set of a recipe, as `build` gives it.
     ensures built { (folder text : List ℕ) (lines : List RecipeLine) (built : Built)
         (files old new : Files) → recipe_said text ≡ Ok lines → AnswersSizes lines (Ok built)
-        → Builds lines (Ok built) files → IsSmall built → HasNoOtherBatches folder old lines
-        → WritesFiles (written_files folder built) old new (Ok tt)
-        → HoldsSet folder new (sources_in files) lines }
+        → Builds lines (Ok built) files → IsSmallSet built
+        → WritesAllFiles (written_files folder built) old new (Ok tt)
+        → HoldsWritten folder old new (sources_in files) lines }
     // The generated set of a number, as `make` gives it.
     ensures made { (folder : List ℕ) (number : ℕ) (built : Built) (old new : Files)
-        → built_view built ≡ recipe_set (generated_sources number) generated_lines → IsSmall built
-        → HasNoOtherBatches folder old generated_lines
-        → WritesFiles (written_files folder built) old new (Ok tt)
-        → HoldsSet folder new (generated_sources number) generated_lines }
+        → built_view built ≡ recipe_set (generated_sources number) generated_lines
+        → IsSmallSet built → WritesAllFiles (written_files folder built) old new (Ok tt)
+        → HoldsWritten folder old new (generated_sources number) generated_lines }
 {
     a_built_set_has_no_finding();
     a_written_set_can_be_read();

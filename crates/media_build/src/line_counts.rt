@@ -38,7 +38,7 @@ impl Counts {
     }
 }
 
-// How many members there are after this line.
+/// How many members there are after this line.
 fn members_after(statement: &Statement, members: u8) -> u8
     ensures { result ≡ given (members_in statement.now) members }
 {
@@ -48,7 +48,7 @@ fn members_after(statement: &Statement, members: u8) -> u8
     }
 }
 
-// How many files the last load has after this line.
+/// How many files the last load has after this line.
 fn files_after(statement: &Statement, files: usize) -> usize
     requires { files ≤ 255 }
     ensures { result ≡ count_files statement.now files }
@@ -61,7 +61,7 @@ fn files_after(statement: &Statement, files: usize) -> usize
     }
 }
 
-// Whether the last load has user data after this line.
+/// Whether the last load has user data after this line.
 fn has_user_after(statement: &Statement, has_user: bool) -> bool
     ensures { result ≡ keeps_user statement.now has_user }
 {
@@ -72,7 +72,7 @@ fn has_user_after(statement: &Statement, has_user: bool) -> bool
     }
 }
 
-// What lines end with whose last one says this.
+/// What lines end with whose last one says this.
 fn stage_after(statement: &Statement) -> Stage
     ensures { result ≡ stage_said statement.now }
 {
@@ -83,7 +83,7 @@ fn stage_after(statement: &Statement) -> Stage
     }
 }
 
-// How many targets the last batch has after this line.
+/// How many targets the last batch has after this line.
 fn targets_after(statement: &Statement, targets: usize) -> usize
     requires { targets ≤ 64 }
     ensures { result ≡ count_targets statement.now targets }

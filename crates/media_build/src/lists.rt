@@ -13,7 +13,7 @@ ghost use Rattle.media_build.specs.RecipeSets.{listed_body, load_entry as entry_
 ghost use Rattle.media_build.specs.RecipeSets.{all_where_some, batch_entry as batch_said};
 ghost use Rattle.media_build.specs.RecipeSets.{batches_of, recipe_loads};
 
-use crate::batches::{BatchPart, Batches};
+use crate::batches::{BatchPart, RecipeBatches};
 use crate::building_fault::BuildFault;
 use crate::gathering::hardware_of;
 use crate::loads::{LoadPart, Loads};
@@ -42,7 +42,7 @@ pub(crate) fn loads_list(alloc: Global, lines: &[RecipeLine]) -> Result<LoadsLis
     Ok(list)
 }
 
-// The same of a set of this part number and of this many members, whatever its size.
+/// The same of a set of this part number and of this many members, whatever its size.
 fn loads_list_with(
     alloc: Global,
     lines: &[RecipeLine],
@@ -62,7 +62,7 @@ fn loads_list_with(
     })
 }
 
-// The part number of the set, and how many members it has.
+/// The part number of the set, and how many members it has.
 fn start_of(lines: &[RecipeLine]) -> Option<(PartNumber, u8)>
     ensures { result ≡ start_said lines.now }
 {
@@ -154,7 +154,7 @@ fn listed_file(alloc: Global, body: &Placed) -> Result<ListedFile, NoMemory>
     })
 }
 
-// The path of a member's own folder.
+/// The path of a member's own folder.
 fn root(alloc: Global) -> Result<Text, NoMemory>
     ensures { IfOk result (λ path. path ≡ codes "\\") }
 {
@@ -201,7 +201,7 @@ pub(crate) fn batches_list(
 fn batch_entries(alloc: Global, lines: &[RecipeLine]) -> Result<List<BatchEntry>, NoMemory>
     ensures { IfOk result (λ entries. entries.items ≡ map batch_said (batches_of lines.now)) }
 {
-    let mut batches = Batches::new(lines);
+    let mut batches = RecipeBatches::new(lines);
     let mut entries = List::new(alloc);
     while let Some(batch) = batches.next() {
         entries.push(batch_entry(&batch))?;

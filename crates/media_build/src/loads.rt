@@ -91,7 +91,7 @@ impl<'a> Loads<'a> {
     }
 }
 
-// The first load line: its number, what it says, and the lines after it.
+/// The first load line: its number, what it says, and the lines after it.
 fn first_load(lines: &[RecipeLine]) -> Option<(u64, &LoadLine, &[RecipeLine])>
     ensures { MatchOption result (loads_of lines.now ≡ []) (λ found. loads_of lines.now
         ≡ load_at found.0 (Load found.1.now) found.2.now ++ loads_of found.2.now) }
@@ -104,7 +104,7 @@ fn first_load(lines: &[RecipeLine]) -> Option<(u64, &LoadLine, &[RecipeLine])>
     None
 }
 
-// The lines up to the next load or batch, and those from it on.
+/// The lines up to the next load or batch, and those from it on.
 fn cut(lines: &[RecipeLine]) -> (&[RecipeLine], &[RecipeLine])
     ensures own { result.0.now ≡ take_while (λ line. not (is_end line.statement)) lines.now }
     ensures rest { loads_of result.1.now ≡ loads_of lines.now }
@@ -117,7 +117,7 @@ fn cut(lines: &[RecipeLine]) -> (&[RecipeLine], &[RecipeLine])
     (lines, &lines[lines.len()..])
 }
 
-// Whether the lines of a load end here.
+/// Whether the lines of a load end here.
 fn ends_load(statement: &Statement) -> bool
     ensures { result ≡ is_end statement.now }
 {

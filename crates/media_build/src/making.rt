@@ -4,7 +4,7 @@ ghost use Rattle.crc_fields.specs.CheckSums.{crc32_of};
 ghost use Rattle.load_base.specs.Name.{IsName};
 ghost use Rattle.load_base.specs.Text.{IsText};
 ghost use Rattle.load_header.specs.Header.{header_view};
-ghost use Rattle.media_build.specs.Building.{IsSmall};
+ghost use Rattle.media_build.specs.Building.{IsSmallSet};
 ghost use Rattle.media_build.specs.GeneratedSet.{always, generated_lines, generated_load_view};
 ghost use Rattle.media_build.specs.GeneratedSet.{generated_sources, generated_file, set_of_one};
 ghost use Rattle.media_build.specs.NoFindings.{built_view};
@@ -39,9 +39,10 @@ const GENERATED_SIZE: usize = 4_194_304;
 pub fn make(alloc: Global, number: u32) -> Result<Built, NoMemory>
     ensures set { IfOk result (λ built.
         built_view built ≡ recipe_set (generated_sources number) generated_lines) }
-    ensures small { IfOk result IsSmall }
+    ensures small { IfOk result IsSmallSet }
     ensures sound { IfOk result (λ built. findings_of (set_in (built_media built)) ≡ []) }
 {
+    // For the proof: does nothing.
     a_built_set_has_no_finding();
     let file = generated_bytes(alloc, number, GENERATED_SIZE)?;
     let header = header_of_file(alloc, file.as_slice())?;
@@ -50,7 +51,7 @@ pub fn make(alloc: Global, number: u32) -> Result<Built, NoMemory>
     built_of(alloc, loads, files, header, file)
 }
 
-// The set of these lists and files.
+/// The set of these lists and files.
 fn built_of(
     alloc: Global,
     loads: Bytes,
@@ -77,7 +78,7 @@ fn built_of(
     Ok(built)
 }
 
-// A file of member 1.
+/// A file of member 1.
 fn placed(name: Name, bytes: Bytes) -> Placed
     ensures { result ≡ record { member = 1; name = name; bytes = bytes } }
 {
@@ -88,13 +89,14 @@ fn placed(name: Name, bytes: Bytes) -> Placed
     }
 }
 
-// The header of a load with this file.
+/// The header of a load with this file.
 fn header_of_file(alloc: Global, file: &[u8]) -> Result<Bytes, NoMemory>
     requires { length file.now ≤ 16777215 }
     ensures bytes { IfOk result (λ bytes. bytes.items
         ≡ bytes_of_header (header_of (always file.now) generated_load_view)) }
     ensures short { IfOk result (λ bytes. length bytes.items ≤ 65536) }
 {
+    // For the proof: does nothing.
     header_laws();
     let mut header = header_start(alloc, file)?;
     let start = header.encode(alloc)?;
@@ -102,7 +104,7 @@ fn header_of_file(alloc: Global, file: &[u8]) -> Result<Bytes, NoMemory>
     header.encode(alloc)
 }
 
-// The CRC-32 over a header but its last 4 bytes, and a file.
+/// The CRC-32 over a header but its last 4 bytes, and a file.
 fn load_crc_of(header: &[u8], file: &[u8]) -> u32
     requires { 4 ≤ length header.now }
     ensures { result ≡ crc32_of (take (length header.now - 4) header.now ++ file.now) }
@@ -112,7 +114,7 @@ fn load_crc_of(header: &[u8], file: &[u8]) -> u32
     sum.value()
 }
 
-// The same header but for its load CRC, which is 0.
+/// The same header but for its load CRC, which is 0.
 #[tactic(auto, unfolding(crate::specs::RecipeSets::header_start))]
 fn header_start(alloc: Global, file: &[u8]) -> Result<LoadHeader, NoMemory>
     requires { length file.now ≤ 16777215 }
@@ -155,7 +157,7 @@ fn hardware(alloc: Global) -> Result<List<Text>, NoMemory>
     Ok(hardware)
 }
 
-// `LOADS.LUM`.
+/// `LOADS.LUM`.
 fn loads_list(alloc: Global) -> Result<Bytes, NoMemory>
     ensures { IfOk result (λ bytes. bytes.items ≡ loads_list_bytes generated_lines 1) }
 {
@@ -183,7 +185,7 @@ fn listed_loads(alloc: Global) -> Result<LoadsList, NoMemory>
     })
 }
 
-// `FILES.LUM`, of the bytes of the header and those of the file.
+/// `FILES.LUM`, of the bytes of the header and those of the file.
 fn files_list(alloc: Global, header: &[u8], file: &[u8]) -> Result<Bytes, NoMemory>
     requires { header.now ≡ bytes_of_header (header_of (always file.now) generated_load_view) }
     ensures { IfOk result (λ bytes.
@@ -211,7 +213,7 @@ fn listed_files(alloc: Global, header: &[u8], file: &[u8]) -> Result<FilesList, 
     })
 }
 
-// A file in the root of member 1.
+/// A file in the root of member 1.
 fn listed(alloc: Global, name: Name, bytes: &[u8]) -> Result<ListedFile, NoMemory>
     ensures { IfOk result (λ file. file ≡ listed_body
         (record { name = name; member = 1; bytes = bytes.now })) }
@@ -254,6 +256,7 @@ fn part(bytes: &[u8]) -> PartNumber
 {
     match PartNumber::read(bytes) {
         Ok(part) => part,
+        // The premise says that this is a part number.
         Err(_) => unreachable!(),
     }
 }
@@ -264,6 +267,7 @@ fn name(bytes: &[u8]) -> Name
 {
     match Name::read(bytes) {
         Ok(name) => name,
+        // The premise says that this is a name.
         Err(_) => unreachable!(),
     }
 }

@@ -1,6 +1,6 @@
 //! The lines of a recipe that were read so far, and what the next line is tested against.
 ghost use Rattle.std.specs.Prelude.{◌≡◌, ◌<◌, ◌∷◌, ◌++◌, [], length, false, IfOk, OnOk};
-ghost use Rattle.field_grammar.specs.Answers.{Gives};
+ghost use Rattle.field_grammar.specs.Answers.{AnswersAs};
 ghost use Rattle.media_build.specs.Lines.{is_used, is_whole as is_whole_at, names_in, stage_of};
 ghost use Rattle.media_build.specs.Lines.{target_count};
 ghost use Rattle.media_build.specs.Partials.{MayFollow, IsNewFile, IsNewName, with_parts};
@@ -31,6 +31,7 @@ use crate::words::{
     LONGEST_SOURCE, LONGEST_TEXT, ident, is_batch_name, is_body_name, is_header_name, name, number,
     part, text, user,
 };
+use batch_lists::MOST_TARGETS;
 use indexmap::IndexSet;
 use load_base::{Ident, List, Name, NoMemory, Text};
 use part_number::PartNumber;
@@ -42,9 +43,6 @@ const MOST_FILES: usize = 1024;
 
 /// The most data and support files of a load.
 const MOST_FILES_OF_LOAD: usize = 255;
-
-/// The most targets of a batch.
-const MOST_TARGETS: usize = 64;
 
 /// The lines so far. A contract sees it as their list.
 #[derive(Drop)]
@@ -119,7 +117,7 @@ impl PartialRecipe {
         line: u64,
         words: &mut Pieces,
     ) -> Result<Statement, RecipeFault>
-        ensures said { Gives Memory (λ statement. statement) result
+        ensures said { AnswersAs Memory (λ statement. statement) result
             (words_said line self.now words.old) }
         ensures new { IfOk result (MayFollow self.now) }
     {
@@ -132,7 +130,7 @@ impl PartialRecipe {
 
     #[tactic(auto, unfolding(crate::specs::Recipes::keyword_said))]
     fn keyword(&self, line: u64, word: &[u8]) -> Result<Keyword, RecipeFault>
-        ensures { Gives Memory (λ keyword. keyword) result
+        ensures { AnswersAs Memory (λ keyword. keyword) result
             (keyword_said line self.now word.now) }
     {
         let Some(keyword) = keyword_of(word) else {
@@ -152,7 +150,7 @@ impl PartialRecipe {
         keyword: Keyword,
         words: &mut Pieces,
     ) -> Result<Statement, RecipeFault>
-        ensures said { Gives Memory (λ statement. statement) result
+        ensures said { AnswersAs Memory (λ statement. statement) result
             (statement_said line self.now keyword words.old) }
         ensures new { IfOk result (MayFollow self.now) }
     {
@@ -180,7 +178,7 @@ impl PartialRecipe {
         line: u64,
         words: &mut Pieces,
     ) -> Result<LoadLine, RecipeFault>
-        ensures said { Gives Memory (λ load. load) result (load_words line self.now words.old) }
+        ensures said { AnswersAs Memory (λ load. load) result (load_words line self.now words.old) }
         ensures new { IfOk result (λ load. is_used self.now load.name ≡ false) }
     {
         let Some((part, (name, member, type_id, type_name))) = words.five() else {
@@ -200,7 +198,7 @@ impl PartialRecipe {
         id_word: &[u8],
         type_word: &[u8],
     ) -> Result<LoadLine, RecipeFault>
-        ensures said { Gives Memory (λ load. load) result (load_said line self.now part_word.now
+        ensures said { AnswersAs Memory (λ load. load) result (load_said line self.now part_word.now
             name_word.now member_word.now id_word.now type_word.now) }
         ensures new { IfOk result (λ load. is_used self.now load.name ≡ false) }
     {
@@ -226,7 +224,7 @@ impl PartialRecipe {
         line: u64,
         words: &mut Pieces,
     ) -> Result<FileLine, RecipeFault>
-        ensures said { Gives Memory (λ file. file) result (file_words line self.now words.old) }
+        ensures said { AnswersAs Memory (λ file. file) result (file_words line self.now words.old) }
         ensures new { IfOk result (IsNewFile self.now) }
     {
         let Some((name, member, source, part)) = words.four() else {
@@ -245,7 +243,7 @@ impl PartialRecipe {
         source_word: &[u8],
         part_word: &[u8],
     ) -> Result<FileLine, RecipeFault>
-        ensures said { Gives Memory (λ file. file) result (file_said line self.now name_word.now
+        ensures said { AnswersAs Memory (λ file. file) result (file_said line self.now name_word.now
             member_word.now source_word.now part_word.now) }
         ensures new { IfOk result (IsNewFile self.now) }
     {
@@ -269,7 +267,7 @@ impl PartialRecipe {
         line: u64,
         words: &mut Pieces,
     ) -> Result<UserData, RecipeFault>
-        ensures { Gives Memory (λ user. user) result (user_words line self.now words.old) }
+        ensures { AnswersAs Memory (λ user. user) result (user_words line self.now words.old) }
     {
         let Some(word) = words.one() else {
             return Err(RecipeFault::Word(line));
@@ -283,7 +281,8 @@ impl PartialRecipe {
 
     #[tactic(auto, unfolding(crate::specs::Recipes::batch_line))]
     fn batch_line(&self, line: u64, words: &mut Pieces) -> Result<BatchLine, RecipeFault>
-        ensures said { Gives Memory (λ batch. batch) result (batch_words line self.now words.old) }
+        ensures said { AnswersAs Memory (λ batch. batch) result
+            (batch_words line self.now words.old) }
         ensures new { IfOk result (λ batch. is_used self.now batch.name ≡ false) }
     {
         let Some((part, name, member)) = words.three() else {
@@ -300,7 +299,7 @@ impl PartialRecipe {
         name_word: &[u8],
         member_word: &[u8],
     ) -> Result<BatchLine, RecipeFault>
-        ensures said { Gives Memory (λ batch. batch) result
+        ensures said { AnswersAs Memory (λ batch. batch) result
             (batch_said line self.now part_word.now name_word.now member_word.now) }
         ensures new { IfOk result (λ batch. is_used self.now batch.name ≡ false) }
     {
@@ -319,7 +318,7 @@ impl PartialRecipe {
         line: u64,
         words: &mut Pieces,
     ) -> Result<TargetLine, RecipeFault>
-        ensures said { Gives Memory (λ target. target) result
+        ensures said { AnswersAs Memory (λ target. target) result
             (target_words line self.now words.old) }
         ensures new { IfOk result (λ target. target_count self.now < 64) }
     {
@@ -329,7 +328,7 @@ impl PartialRecipe {
         self.target(alloc, line, hw, pos, words)
     }
 
-    // The words behind the first two are the parts.
+    /// The words behind the first two are the parts.
     #[tactic(auto, unfolding(crate::specs::Recipes::target_said))]
     fn target(
         &self,
@@ -339,26 +338,26 @@ impl PartialRecipe {
         pos_word: &[u8],
         words: &mut Pieces,
     ) -> Result<TargetLine, RecipeFault>
-        ensures said { Gives Memory (λ target. target) result
+        ensures said { AnswersAs Memory (λ target. target) result
             (target_said line self.now hw_word.now pos_word.now words.old) }
         ensures new { IfOk result (λ target. target_count self.now < 64) }
     {
         let (hw, pos) = place_of(line, hw_word, pos_word)?;
         let parts = self.load_parts(alloc, line, words)?;
-        if self.counts.targets >= MOST_TARGETS {
+        if self.counts.targets >= usize::from(MOST_TARGETS) {
             return Err(RecipeFault::Limit(line));
         }
         Ok(TargetLine { hw, pos, parts })
     }
 
-    // All words that are left, each the part number of a load.
+    /// All words that are left, each the part number of a load.
     fn load_parts(
         &self,
         alloc: Global,
         line: u64,
         words: &mut Pieces,
     ) -> Result<TargetParts, RecipeFault>
-        ensures { Gives Memory (λ parts. parts) result
+        ensures { AnswersAs Memory (λ parts. parts) result
             (load_part_words line self.now words.old) }
     {
         let mut parts = TargetParts::new(alloc);
@@ -371,7 +370,7 @@ impl PartialRecipe {
 
     #[tactic(auto, unfolding(crate::specs::Recipes::load_part_word))]
     fn load_part(&self, line: u64, word: &[u8]) -> Result<PartNumber, RecipeFault>
-        ensures { Gives Memory (λ part. part) result (load_part_word line self.now word.now) }
+        ensures { AnswersAs Memory (λ part. part) result (load_part_word line self.now word.now) }
     {
         let part = part(line, word)?;
         if !self.parts.contains(part) {
@@ -380,7 +379,7 @@ impl PartialRecipe {
         Ok(part)
     }
 
-    // The name and the member of a header.
+    /// The name and the member of a header.
     #[tactic(auto, unfolding(crate::specs::Recipes::placed_words))]
     fn header_place(
         &self,
@@ -388,7 +387,7 @@ impl PartialRecipe {
         name_word: &[u8],
         member_word: &[u8],
     ) -> Result<(Name, u8), RecipeFault>
-        ensures said { Gives Memory (λ place. place) result
+        ensures said { AnswersAs Memory (λ place. place) result
             (placed_words line self.now is_header name_word.now member_word.now) }
         ensures new { IfOk result (λ place. is_used self.now place.0 ≡ false) }
     {
@@ -399,7 +398,7 @@ impl PartialRecipe {
         self.place(line, name, member_word)
     }
 
-    // The name and the member of a data or support file.
+    /// The name and the member of a data or support file.
     #[tactic(auto, unfolding(crate::specs::Recipes::placed_words))]
     fn body_place(
         &self,
@@ -407,7 +406,7 @@ impl PartialRecipe {
         name_word: &[u8],
         member_word: &[u8],
     ) -> Result<(Name, u8), RecipeFault>
-        ensures said { Gives Memory (λ place. place) result
+        ensures said { AnswersAs Memory (λ place. place) result
             (placed_words line self.now is_body name_word.now member_word.now) }
         ensures new { IfOk result (λ place. is_used self.now place.0 ≡ false) }
     {
@@ -418,7 +417,7 @@ impl PartialRecipe {
         self.place(line, name, member_word)
     }
 
-    // The name and the member of a batch's file.
+    /// The name and the member of a batch's file.
     #[tactic(auto, unfolding(crate::specs::Recipes::placed_words))]
     fn batch_place(
         &self,
@@ -426,7 +425,7 @@ impl PartialRecipe {
         name_word: &[u8],
         member_word: &[u8],
     ) -> Result<(Name, u8), RecipeFault>
-        ensures said { Gives Memory (λ place. place) result
+        ensures said { AnswersAs Memory (λ place. place) result
             (placed_words line self.now is_batch name_word.now member_word.now) }
         ensures new { IfOk result (λ place. is_used self.now place.0 ≡ false) }
     {
@@ -437,10 +436,10 @@ impl PartialRecipe {
         self.place(line, name, member_word)
     }
 
-    // A name, unless it is used, and the member.
+    /// A name, unless it is used, and the member.
     #[tactic(auto, unfolding(crate::specs::Recipes::new_place))]
     fn place(&self, line: u64, name: Name, member_word: &[u8]) -> Result<(Name, u8), RecipeFault>
-        ensures said { Gives Memory (λ place. place) result
+        ensures said { AnswersAs Memory (λ place. place) result
             (new_place line self.now name member_word.now) }
         ensures new { IfOk result (λ place. is_used self.now place.0 ≡ false) }
     {
@@ -451,7 +450,7 @@ impl PartialRecipe {
         Ok((name, member as u8))
     }
 
-    // Whether the set may have one more file.
+    /// Whether the set may have one more file.
     fn has_room(&self) -> bool
         ensures { result ≡ has_room_for_file self.now }
     {
@@ -487,7 +486,7 @@ impl PartialRecipe {
     }
 }
 
-// Adds the name that a line gives to a file, which is new.
+/// Adds the name that a line gives to a file, which is new.
 fn insert_name(names: &mut IndexSet<Name>, statement: &Statement) -> Result<(), NoMemory>
     requires { IsNewName names.old.keys statement.now }
     ensures { OnOk result (names.new.keys ≡ names.old.keys ++ names_in statement.now) }
@@ -510,7 +509,7 @@ fn insert_name(names: &mut IndexSet<Name>, statement: &Statement) -> Result<(), 
     Ok(())
 }
 
-// Adds the part number that a line gives to a load.
+/// Adds the part number that a line gives to a load.
 fn insert_part(parts: &mut LoadParts, statement: &Statement) -> Result<(), NoMemory>
     ensures { OnOk result (parts.new ≡ with_parts statement.now parts.old) }
 {
@@ -522,7 +521,7 @@ fn insert_part(parts: &mut LoadParts, statement: &Statement) -> Result<(), NoMem
 
 #[tactic(auto, unfolding(crate::specs::Recipes::set_line))]
 fn set_line(line: u64, words: &mut Pieces) -> Result<PartNumber, RecipeFault>
-    ensures { Gives Memory (λ part. part) result (set_words line words.old) }
+    ensures { AnswersAs Memory (λ part. part) result (set_words line words.old) }
 {
     let Some(word) = words.one() else {
         return Err(RecipeFault::Word(line));
@@ -532,7 +531,7 @@ fn set_line(line: u64, words: &mut Pieces) -> Result<PartNumber, RecipeFault>
 
 #[tactic(auto, unfolding(crate::specs::Recipes::members_line))]
 fn members_line(line: u64, words: &mut Pieces) -> Result<u8, RecipeFault>
-    ensures { Gives Memory (λ members. members) result (members_words line words.old) }
+    ensures { AnswersAs Memory (λ members. members) result (members_words line words.old) }
 {
     let Some(word) = words.one() else {
         return Err(RecipeFault::Word(line));
@@ -543,7 +542,7 @@ fn members_line(line: u64, words: &mut Pieces) -> Result<u8, RecipeFault>
 
 #[tactic(auto, unfolding(crate::specs::Recipes::hardware_line))]
 fn hardware_line(alloc: Global, line: u64, words: &mut Pieces) -> Result<Text, RecipeFault>
-    ensures { Gives Memory (λ hardware. hardware) result (hardware_words line words.old) }
+    ensures { AnswersAs Memory (λ hardware. hardware) result (hardware_words line words.old) }
 {
     let Some(word) = words.one() else {
         return Err(RecipeFault::Word(line));
@@ -553,7 +552,7 @@ fn hardware_line(alloc: Global, line: u64, words: &mut Pieces) -> Result<Text, R
 
 #[tactic(auto, unfolding(crate::specs::Recipes::position_line))]
 fn position_line(alloc: Global, line: u64, words: &mut Pieces) -> Result<(Text, Text), RecipeFault>
-    ensures { Gives Memory (λ position. position) result (position_words line words.old) }
+    ensures { AnswersAs Memory (λ position. position) result (position_words line words.old) }
 {
     let Some((id_word, position_word)) = words.two() else {
         return Err(RecipeFault::Word(line));
@@ -563,7 +562,7 @@ fn position_line(alloc: Global, line: u64, words: &mut Pieces) -> Result<(Text, 
     Ok((hardware, position))
 }
 
-// The number and the name of a load's type.
+/// The number and the name of a load's type.
 #[tactic(auto, unfolding(crate::specs::Recipes::type_words))]
 fn type_of(
     alloc: Global,
@@ -571,14 +570,14 @@ fn type_of(
     id_word: &[u8],
     name_word: &[u8],
 ) -> Result<(u16, Text), RecipeFault>
-    ensures { Gives Memory (λ kind. kind) result (type_words line id_word.now name_word.now) }
+    ensures { AnswersAs Memory (λ kind. kind) result (type_words line id_word.now name_word.now) }
 {
     let id = number(line, id_word, 0, u16::MAX)?;
     let name = text(alloc, line, LONGEST_TEXT, name_word)?;
     Ok((id, name))
 }
 
-// The source of a file and its part.
+/// The source of a file and its part.
 #[tactic(auto, unfolding(crate::specs::Recipes::source_words))]
 fn source_of(
     alloc: Global,
@@ -586,7 +585,7 @@ fn source_of(
     source_word: &[u8],
     part_word: &[u8],
 ) -> Result<(Text, Text), RecipeFault>
-    ensures { Gives Memory (λ origin. origin) result
+    ensures { AnswersAs Memory (λ origin. origin) result
         (source_words line source_word.now part_word.now) }
 {
     let source = text(alloc, line, LONGEST_SOURCE, source_word)?;
@@ -594,10 +593,10 @@ fn source_of(
     Ok((source, part))
 }
 
-// The hardware and the position of a target.
+/// The hardware and the position of a target.
 #[tactic(auto, unfolding(crate::specs::Recipes::place_words))]
 fn place_of(line: u64, hw_word: &[u8], pos_word: &[u8]) -> Result<(Ident, Ident), RecipeFault>
-    ensures { Gives Memory (λ place. place) result (place_words line hw_word.now pos_word.now) }
+    ensures { AnswersAs Memory (λ place. place) result (place_words line hw_word.now pos_word.now) }
 {
     let hw = ident(line, hw_word)?;
     let pos = ident(line, pos_word)?;

@@ -5,10 +5,8 @@ ghost use Rattle.std.specs.List.{slice_split, position};
 ghost use Rattle.media_build.specs.Lines.{pieces_left, one_of, two_of, three_of, four_of, five_of};
 ghost use Rattle.media_build.specs.Lines.{target_of};
 
+use batch_lists::MOST_PARTS_OF_A_TARGET;
 use std::marker::Model;
-
-/// The most loads of a target.
-const MOST_PARTS: usize = 32;
 
 /// The pieces between the separators, from left to right; there is one more than separators.
 ///
@@ -142,13 +140,13 @@ impl<'a> Pieces<'a> {
             return None;
         };
         let count = self.count();
-        if count < 1 || count > MOST_PARTS {
+        if count < 1 || count > usize::from(MOST_PARTS_OF_A_TARGET) {
             return None;
         }
         Some((first, second))
     }
 
-    // How many pieces are left.
+    /// How many pieces are left.
     #[tactic(auto, using(crate::proofs::Cuts::pieces_are))]
     fn count(&self) -> usize
         ensures { result ≡ length self.now }
@@ -161,7 +159,7 @@ impl<'a> Pieces<'a> {
     }
 }
 
-// What stands before the first separator, and what stands after it, where there is one.
+/// What stands before the first separator, and what stands after it, where there is one.
 #[tactic(auto, using(crate::proofs::Cuts::cut_none, crate::proofs::Cuts::cut_some))]
 fn cut(bytes: &[u8], separator: u8) -> (&[u8], Option<&[u8]>)
     ensures { slice_split (λ byte. byte == separator) bytes.now
@@ -173,7 +171,7 @@ fn cut(bytes: &[u8], separator: u8) -> (&[u8], Option<&[u8]>)
     }
 }
 
-// The offset of the first separator.
+/// The offset of the first separator.
 fn first(bytes: &[u8], separator: u8) -> Option<usize>
     ensures { result ≡ position (λ byte. byte == separator) bytes.now }
 {

@@ -56,7 +56,7 @@ impl Kinds {
         }
     }
 
-    // With the position of a line, if it has one.
+    /// With the position of a line, if it has one.
     fn with_line(self, alloc: Global, statement: &Statement) -> Result<Kinds, NoMemory>
         ensures { IfOk result (λ kinds. kinds ≡ positioned self (position_in statement.now)) }
     {
@@ -66,7 +66,7 @@ impl Kinds {
         }
     }
 
-    // With one more position.
+    /// With one more position.
     fn with(self, alloc: Global, hardware: &Text, position: &Text) -> Result<Kinds, NoMemory>
         ensures { IfOk result (λ kinds. kinds ≡ with_position hardware.now position.now self) }
     {
@@ -79,7 +79,7 @@ impl Kinds {
         }
     }
 
-    // With a new kind, whose name stands last.
+    /// With a new kind, whose name stands last.
     fn of_new(
         alloc: Global,
         names: IndexSet<Hardware>,
@@ -97,7 +97,7 @@ impl Kinds {
         Ok(Kinds { names, kinds })
     }
 
-    // With a position of the kind at this index.
+    /// With a position of the kind at this index.
     fn of_known(
         alloc: Global,
         names: IndexSet<Hardware>,
@@ -127,7 +127,7 @@ impl Kinds {
     }
 }
 
-// A hardware with its first position.
+/// A hardware with its first position.
 fn first_of(alloc: Global, hardware: &Text, position: &Text) -> Result<HardwareAt, NoMemory>
     ensures { IfOk result (λ kind. hardware_at_view kind
         ≡ one_position hardware.now position.now) }

@@ -1,7 +1,6 @@
 //! Recipes, and how they are read.
 ghost use Rattle.std.specs.Prelude.{◌≡◌, ◌≤◌, ◌⊎◌, [], length, Ok, Err, IfOk, IfErr};
-ghost use Rattle.std.specs.List.{slice_split};
-ghost use Rattle.field_grammar.specs.Answers.{Gives};
+ghost use Rattle.field_grammar.specs.Answers.{AnswersAs};
 ghost use Rattle.exchange_trace.specs.Scripts.{written_lines, is_passed_over as is_passed};
 ghost use Rattle.media_build.specs.Accepted.{IsRecipe};
 ghost use Rattle.media_build.specs.Recipes.{recipe_said, lines_said, line_count as count_lines};
@@ -74,10 +73,11 @@ impl Recipe {
     }
 }
 
-// The lines of a text that aren't passed over, in their order.
+/// The lines of a text that aren't passed over, in their order.
 fn read_lines(alloc: Global, bytes: &[u8]) -> Result<PartialRecipe, RecipeFault>
     requires { length bytes.now ≤ 1000000 }
-    ensures { Gives Memory (λ partial. partial) result (lines_said [] (written_lines bytes.now)) }
+    ensures { AnswersAs Memory (λ partial. partial) result (lines_said []
+        (written_lines bytes.now)) }
 {
     let mut partial = PartialRecipe::new(alloc);
     let mut lines = Pieces::new(bytes, b'\n');
@@ -89,14 +89,14 @@ fn read_lines(alloc: Global, bytes: &[u8]) -> Result<PartialRecipe, RecipeFault>
     Ok(partial)
 }
 
-// The lines so far, with this one unless it is passed over.
+/// The lines so far, with this one unless it is passed over.
 fn with_line(
     alloc: Global,
     partial: PartialRecipe,
     number: u64,
     line: &[u8],
 ) -> Result<PartialRecipe, RecipeFault>
-    ensures { Gives Memory (λ partial. partial) result (line_said number partial line.now) }
+    ensures { AnswersAs Memory (λ partial. partial) result (line_said number partial line.now) }
 {
     if is_passed_over(line) {
         return Ok(partial);
@@ -105,14 +105,14 @@ fn with_line(
     Ok(partial.with(number, statement)?)
 }
 
-// Whether a line is empty or begins with `#`.
+/// Whether a line is empty or begins with `#`.
 fn is_passed_over(line: &[u8]) -> bool
     ensures { result ≡ is_passed line.now }
 {
     line.is_empty() || line[0] == b'#'
 }
 
-// How many lines a text has. Each line feed ends one, and what stands after the last is one too.
+/// How many lines a text has. Each line feed ends one, and what stands after the last is one too.
 fn line_count(bytes: &[u8]) -> u64
     ensures { result ≡ count_lines bytes.now }
 {

@@ -1,5 +1,5 @@
 //! The sizes of headers, which the recipe alone decides.
-ghost use Rattle.std.specs.Prelude.{◌≡◌, IfOk, IfErr, OnErr};
+ghost use Rattle.std.specs.Prelude.{◌≡◌, IfOk};
 ghost use Rattle.load_header.specs.Header.{header_view};
 ghost use Rattle.media_build.specs.Accepted.{IsRecipe};
 ghost use Rattle.media_build.specs.Building.{unread, AnswersHeader, AnswersHeaders};
@@ -28,7 +28,7 @@ pub(crate) fn headers_length(alloc: Global, lines: &[RecipeLine]) -> Result<usiz
     Ok(length)
 }
 
-// How many bytes the header of a load has, if it isn't too long.
+/// How many bytes the header of a load has, if it isn't too long.
 fn header_length(alloc: Global, load: &LoadPart) -> Result<usize, BuildFault>
     requires { IsHeaderIfShort load.now }
     ensures { AnswersHeader load.now result }
@@ -43,7 +43,7 @@ fn header_length(alloc: Global, load: &LoadPart) -> Result<usize, BuildFault>
     Ok(bytes.len())
 }
 
-// The header of a load, of files without bytes.
+/// The header of a load, of files without bytes.
 #[tactic(auto, using(crate::proofs::HeaderLimits::unread_start))]
 fn unread_header(alloc: Global, load: &LoadPart) -> Result<LoadHeader, NoMemory>
     ensures { IfOk result (λ header. header_view header ≡ header_start unread load.now) }

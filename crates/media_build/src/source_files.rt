@@ -152,7 +152,7 @@ impl LoadFiles {
     }
 }
 
-// Files as those of the set, after those before them.
+/// Files as those of the set, after those before them.
 fn add_all(files: Vec<SourceFile>, bodies: List<Placed>) -> Result<List<Placed>, NoMemory>
     ensures { IfOk result (λ all. map body_view all.items
         ≡ map body_view bodies.items ++ map body_of files.items) }

@@ -42,7 +42,7 @@ pub(crate) fn read_files<H: Host>(
     Ok((files, total))
 }
 
-// Reads the source that a line names, if it names one.
+/// Reads the source that a line names, if it names one.
 fn read_line<H: Host>(
     alloc: Global,
     host: &mut H,
@@ -66,7 +66,7 @@ fn read_line<H: Host>(
     Ok((files, total))
 }
 
-// The source that a line names.
+/// The source that a line names.
 fn source_name(statement: &Statement) -> Option<&Text>
     ensures { option_map (λ name. name.now) result ≡ source_of statement.now }
 {
@@ -77,7 +77,7 @@ fn source_name(statement: &Statement) -> Option<&Text>
     }
 }
 
-// The source of this name.
+/// The source of this name.
 fn read_source<H: Host>(
     alloc: Global,
     host: &mut H,

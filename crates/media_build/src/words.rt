@@ -1,7 +1,7 @@
 //! The words of a line of a recipe.
 ghost use Rattle.std.specs.Prelude.{◌≡◌, ◌≤◌, true, IfOk};
 ghost use Rattle.std.specs.List.{list_all};
-ghost use Rattle.field_grammar.specs.Answers.{Gives};
+ghost use Rattle.field_grammar.specs.Answers.{AnswersAs};
 ghost use Rattle.load_base.specs.PartText.{is_graphic as is_graphic_byte};
 ghost use Rattle.media_build.specs.Recipes.{number_word, part_word, text_word, name_word};
 ghost use Rattle.media_build.specs.Recipes.{user_word, is_graphic_word, ident_word};
@@ -25,7 +25,7 @@ pub(crate) const LONGEST_SOURCE: usize = 150;
 
 /// A decimal number in this range.
 pub(crate) fn number(line: u64, word: &[u8], low: u16, high: u16) -> Result<u16, RecipeFault>
-    ensures said { Gives Memory (λ number. number) result (number_word line low high word.now) }
+    ensures said { AnswersAs Memory (λ number. number) result (number_word line low high word.now) }
     ensures within { IfOk result (λ number. number ≤ high) }
 {
     match decimal_in(word, u32::from(low), u32::from(high)) {
@@ -34,9 +34,9 @@ pub(crate) fn number(line: u64, word: &[u8], low: u16, high: u16) -> Result<u16,
     }
 }
 
-#[tactic(auto, unfolding(crate::specs::Recipes::part_word), using(load_base::specs::VerdictLaws::read_judged, load_base::specs::VerdictLaws::refused_judged))]
+#[tactic(auto, unfolding(crate::specs::Recipes::part_word), using(load_base::proofs::VerdictLemmas::read_judged, load_base::proofs::VerdictLemmas::refused_judged))]
 pub(crate) fn part(line: u64, word: &[u8]) -> Result<PartNumber, RecipeFault>
-    ensures { Gives Memory (λ part. part) result (part_word line word.now) }
+    ensures { AnswersAs Memory (λ part. part) result (part_word line word.now) }
 {
     match PartNumber::read(word) {
         Ok(part) => Ok(part),
@@ -44,9 +44,9 @@ pub(crate) fn part(line: u64, word: &[u8]) -> Result<PartNumber, RecipeFault>
     }
 }
 
-#[tactic(auto, unfolding(crate::specs::Recipes::name_word), using(load_base::specs::VerdictLaws::read_judged, load_base::specs::VerdictLaws::refused_judged))]
+#[tactic(auto, unfolding(crate::specs::Recipes::name_word), using(load_base::proofs::VerdictLemmas::read_judged, load_base::proofs::VerdictLemmas::refused_judged))]
 pub(crate) fn name(line: u64, word: &[u8]) -> Result<Name, RecipeFault>
-    ensures { Gives Memory (λ name. name) result (name_word line word.now) }
+    ensures { AnswersAs Memory (λ name. name) result (name_word line word.now) }
 {
     match Name::read(word) {
         Ok(name) => Ok(name),
@@ -55,9 +55,9 @@ pub(crate) fn name(line: u64, word: &[u8]) -> Result<Name, RecipeFault>
 }
 
 /// The hardware or the position of a target.
-#[tactic(auto, unfolding(crate::specs::Recipes::ident_word), using(load_base::specs::VerdictLaws::read_judged, load_base::specs::VerdictLaws::refused_judged))]
+#[tactic(auto, unfolding(crate::specs::Recipes::ident_word), using(load_base::proofs::VerdictLemmas::read_judged, load_base::proofs::VerdictLemmas::refused_judged))]
 pub(crate) fn ident(line: u64, word: &[u8]) -> Result<Ident, RecipeFault>
-    ensures { Gives Memory (λ ident. ident) result (ident_word line word.now) }
+    ensures { AnswersAs Memory (λ ident. ident) result (ident_word line word.now) }
 {
     match Ident::read(word) {
         Ok(ident) => Ok(ident),
@@ -69,7 +69,7 @@ pub(crate) fn ident(line: u64, word: &[u8]) -> Result<Ident, RecipeFault>
 #[tactic(auto, unfolding(crate::specs::Recipes::text_word))]
 pub(crate) fn text(alloc: Global, line: u64, most: usize, word: &[u8]) -> Result<Text, RecipeFault>
     requires { most ≤ 255 }
-    ensures { Gives Memory (λ text. text) result (text_word line most word.now) }
+    ensures { AnswersAs Memory (λ text. text) result (text_word line most word.now) }
 {
     if is_graphic_text(word, most) {
         Ok(text_of(alloc, word, most)?)
@@ -132,7 +132,7 @@ fn ends_with(name: &[u8], end: &[u8]) -> bool
 /// Some multiple of four hexadecimal digits, as bytes.
 #[tactic(auto, unfolding(crate::specs::Recipes::user_word))]
 pub(crate) fn user(alloc: Global, line: u64, word: &[u8]) -> Result<UserData, RecipeFault>
-    ensures { Gives Memory (λ user. user) result (user_word line word.now) }
+    ensures { AnswersAs Memory (λ user. user) result (user_word line word.now) }
 {
     if word.is_empty() || word.len() % 4 != 0 {
         return Err(RecipeFault::Hex(line));

@@ -2,13 +2,13 @@
 ghost use Rattle.std.specs.Prelude.{◌≡◌, ◌+◌, ◌∷◌, ◌++◌, ◌≤◌, [], length, codes, option_map};
 ghost use Rattle.std.specs.Option.{ForSome};
 ghost use Rattle.load_base.specs.Sink.{HasWriteCause};
-ghost use Rattle.media_build.specs.HostWrites.{Writes, written_files, written_member, written_list};
-ghost use Rattle.media_build.specs.HostWrites.{written_body, written_bodies};
+ghost use Rattle.media_build.specs.HostWrites.{WritesToHost, written_files, written_member};
+ghost use Rattle.media_build.specs.HostWrites.{written_list};
+ghost use Rattle.media_build.specs.HostWrites.{written_bodies};
 ghost use Rattle.media_build.specs.NoFindings.{built_view};
 ghost use Rattle.media_build.specs.WrittenFolders.{IsNameIn, KeepsAllBut};
 ghost use Rattle.media_check.specs.BuiltSets.{member_list};
-ghost use Rattle.media_check.specs.HostNames.{host_name, loads_name, files_name};
-ghost use Rattle.media_check.specs.HostNames.{batches_name};
+ghost use Rattle.media_check.specs.HostNames.{host_name};
 
 use arrayvec::ArrayVec;
 use itoa::Buffer;
@@ -19,7 +19,7 @@ use media_check::{Built, Placed};
 /// digits and 64 of a file's name.
 const LONGEST_NAME: usize = 256;
 
-/// Writes a set into this folder of the host, member by member: `LOADS.LUM`, `FILES.LUM`,
+/// WritesToHost a set into this folder of the host, member by member: `LOADS.LUM`, `FILES.LUM`,
 /// `BATCHES.LUM` if the set has one, and the member's files in the order of the set
 /// (docs/FORMATS.md). Where the host fails at a file, those before it were written, that one may
 /// have anything, and the others are as they were. Where the host is out of memory, that one is as
@@ -27,7 +27,7 @@ const LONGEST_NAME: usize = 256;
 #[tactic(auto, unfolding(crate::specs::HostWrites::written_files))]
 pub fn write<H: Host>(host: &mut H, folder: &[u8], built: &Built) -> Result<(), WriteFault>
     requires { length folder.now ≤ 150 }
-    ensures files { Writes (written_files folder.now built.now)
+    ensures files { WritesToHost (written_files folder.now built.now)
         (H.files host.old) (H.files host.new) result }
     // Whatever it answers, no other name is set.
     ensures others { ForSome (H.files host.old) (λ old.
@@ -41,7 +41,7 @@ pub fn write<H: Host>(host: &mut H, folder: &[u8], built: &Built) -> Result<(), 
     Ok(())
 }
 
-// The lists of a member, and its files.
+/// The lists of a member, and its files.
 #[tactic(auto, unfolding(crate::specs::HostWrites::written_member))]
 fn write_member<H: Host>(
     host: &mut H,
@@ -51,7 +51,7 @@ fn write_member<H: Host>(
 ) -> Result<(), WriteFault>
     requires folder { length folder.now ≤ 150 }
     requires member { 1 ≤ member }
-    ensures files { Writes (written_member folder.now built.now member)
+    ensures files { WritesToHost (written_member folder.now built.now member)
         (H.files host.old) (H.files host.new) result }
     ensures cause { HasWriteCause (H.faults host.old) (H.faults host.new) result }
 {
@@ -64,7 +64,7 @@ fn write_member<H: Host>(
     write_bodies(host, folder, member, built.bodies.as_slice())
 }
 
-// The list of this member, where there is one.
+/// The list of this member, where there is one.
 fn list_of(lists: &[Bytes], member: usize) -> Option<&[u8]>
     requires { 1 ≤ member }
     ensures { option_map (λ list. list.now) result ≡ member_list lists.now member }
@@ -84,7 +84,7 @@ fn write_list<H: Host>(
 ) -> Result<(), WriteFault>
     requires folder { length folder.now ≤ 150 }
     requires name { length name.now ≤ 64 }
-    ensures files { Writes (written_list (host_name folder.now member (codes "\\") name.now)
+    ensures files { WritesToHost (written_list (host_name folder.now member (codes "\\") name.now)
         (option_map (λ bytes. bytes.now) list.entry)) (H.files host.old) (H.files host.new) result }
     ensures cause { HasWriteCause (H.faults host.old) (H.faults host.new) result }
 {
@@ -94,7 +94,7 @@ fn write_list<H: Host>(
     }
 }
 
-// The files of a member.
+/// The files of a member.
 fn write_bodies<H: Host>(
     host: &mut H,
     folder: &[u8],
@@ -102,7 +102,7 @@ fn write_bodies<H: Host>(
     bodies: &[Placed],
 ) -> Result<(), WriteFault>
     requires { length folder.now ≤ 150 }
-    ensures files { Writes (written_bodies folder.now member bodies.now)
+    ensures files { WritesToHost (written_bodies folder.now member bodies.now)
         (H.files host.old) (H.files host.new) result }
     ensures cause { HasWriteCause (H.faults host.old) (H.faults host.new) result }
 {
@@ -112,7 +112,7 @@ fn write_bodies<H: Host>(
     Ok(())
 }
 
-// A file, if it is one of this member.
+/// A file, if it is one of this member.
 fn write_body<H: Host>(
     host: &mut H,
     folder: &[u8],
@@ -120,7 +120,7 @@ fn write_body<H: Host>(
     body: &Placed,
 ) -> Result<(), WriteFault>
     requires { length folder.now ≤ 150 }
-    ensures files { Writes (written_bodies folder.now member (body.now ∷ []))
+    ensures files { WritesToHost (written_bodies folder.now member (body.now ∷ []))
         (H.files host.old) (H.files host.new) result }
     ensures cause { HasWriteCause (H.faults host.old) (H.faults host.new) result }
 {
@@ -143,7 +143,7 @@ fn name_of(name: &Name) -> &[u8]
     name.as_slice()
 }
 
-// A file in a member's own folder.
+/// A file in a member's own folder.
 fn write_file<H: Host>(
     host: &mut H,
     folder: &[u8],
@@ -153,7 +153,7 @@ fn write_file<H: Host>(
 ) -> Result<(), WriteFault>
     requires folder { length folder.now ≤ 150 }
     requires name { length name.now ≤ 64 }
-    ensures files { Writes ((host_name folder.now member (codes "\\") name.now, bytes.now) ∷ [])
+    ensures files { WritesToHost ((host_name folder.now member (codes "\\") name.now, bytes.now) ∷ [])
         (H.files host.old) (H.files host.new) result }
     ensures cause { HasWriteCause (H.faults host.old) (H.faults host.new) result }
 {
@@ -161,7 +161,7 @@ fn write_file<H: Host>(
     host.write(whole.as_slice(), bytes)
 }
 
-// The host's name of a file in a member's own folder.
+/// The host's name of a file in a member's own folder.
 #[tactic(auto, unfolding(media_check::specs::HostNames::host_name))]
 fn whole_name(folder: &[u8], member: usize, name: &[u8]) -> ArrayVec<u8, LONGEST_NAME>
     requires folder { length folder.now ≤ 150 }
@@ -178,7 +178,7 @@ fn whole_name(folder: &[u8], member: usize, name: &[u8]) -> ArrayVec<u8, LONGEST
     whole
 }
 
-// Adds bytes, for which there is room.
+/// Adds bytes, for which there is room.
 fn put(whole: &mut ArrayVec<u8, LONGEST_NAME>, bytes: &[u8])
     requires { length whole.old.items + length bytes.now ≤ 256 }
     ensures { whole.new.items ≡ whole.old.items ++ bytes.now }

@@ -20,7 +20,7 @@ use Rattle.media_lists.specs.declared.lists.FilesList.{FilesList}
 use Rattle.media_lists.specs.declared.lists.LoadsList.{LoadsList}
 use Rattle.media_check.specs.HostNames.{host_media, loads_name, files_name, batches_name, list_names}
 use Rattle.media_check.specs.Kept.{bytes_view}
-use Rattle.media_check.specs.Openings.{IsShort, ReadsNames, ReadsList}
+use Rattle.media_check.specs.Openings.{IsShortOnHost, ReadsNames, ReadsList}
 use Rattle.media_check.specs.Sets.{found_in, found_view, lists_view, lists_in}
 use Rattle.media_check.specs.declared.fault.OpenFault.{OpenFault}
 use Rattle.media_check.specs.declared.fault.OpenFault.TheVariants.{TooLong}
@@ -50,7 +50,7 @@ file_too_long o name P refused reads same files told =
       before = [];
       after = [];
       stands = rw same refl;
-      others = All-nil (IsShort files);
+      others = All-nil (IsShortOnHost files);
       long = rw (same, is) long;
     }
 
@@ -72,20 +72,20 @@ pub list_unread : {S L V F : Type 0} (o : Option Files) (name named : List ℕ) 
 list_unread {S = S} {L = L} {F = F} o name named view format P fault same reads =
     subst (λ (n : List ℕ). ForSome o (ReadsList view format n (Err fault))) same
     (told_also o _ (ReadsList view format name (Err fault)) reads
-    (λ files refused. names_refused {S = S} {T = Found L F} files [] (name ∷ []) [] P (IsListFound view format name) fault (All-nil (IsShort files)) refused))
+    (λ files refused. names_refused {S = S} {T = Found L F} files [] (name ∷ []) [] P (IsListFound view format name) fault (All-nil (IsShortOnHost files)) refused))
 
 -- of the files of these names none is too long
 abbrev pub AreShort : List (List ℕ) → Files → Type 0
-AreShort names files = All (IsShort files) names
+AreShort names files = All (IsShortOnHost files) names
 
 pub none_short : (o : Option Files) → ForSome o (AreShort [])
-none_short o = told_anyway o _ (λ files. All-nil (IsShort files))
+none_short o = told_anyway o _ (λ files. All-nil (IsShortOnHost files))
 
 -- one more list was read
 pub more_short : {L V F : Type 0} (o : Option Files) (before : List (List ℕ)) (name : List ℕ) (view : L → V) (format : Grammar F V) (found : Found L F) → ForSome o (AreShort before)
     → ForSome o (ReadsList view format name (Ok found)) → ForSome o (AreShort (before ++ name ∷ []))
 more_short o before name view format found first reads =
-    told_both o _ _ (AreShort (before ++ name ∷ [])) first reads (λ files short read. All-append (IsShort files) before (name ∷ []) short read.0)
+    told_both o _ _ (AreShort (before ++ name ∷ [])) first reads (λ files short read. All-append (IsShortOnHost files) before (name ∷ []) short read.0)
 
 -- a list is refused, after these names were read
 pub refused_after : {L V F T : Type 0} (files : Files) (before after : List (List ℕ)) (name : List ℕ) (view : L → V) (format : Grammar F V) (P : Files → T → Type 0) (fault : OpenFault) → AreShort before files
@@ -104,8 +104,8 @@ pub member_read : (o : Option Files) (folder : List ℕ) (member : ℕ) (loads :
     → ForSome o (ReadsNames (list_names folder member) (λ files (lists : MemberLists). lists_view lists ≡ lists_in (host_media files folder) member) (Ok (record { loads = loads; files = files; batches = batches })))
 member_read o folder member loads files batches first second third =
     told_all o _ _ _ _ first second third (λ host one other last. (
-      All-append (IsShort host) (loads_name folder member ∷ files_name folder member ∷ []) (batches_name folder member ∷ [])
-          (All-append (IsShort host) (loads_name folder member ∷ []) (files_name folder member ∷ []) one.0 other.0) last.0,
+      All-append (IsShortOnHost host) (loads_name folder member ∷ files_name folder member ∷ []) (batches_name folder member ∷ [])
+          (All-append (IsShortOnHost host) (loads_name folder member ∷ []) (files_name folder member ∷ []) one.0 other.0) last.0,
       rw (one.1, other.1, last.1) refl,
     ))
 
@@ -124,14 +124,14 @@ abbrev pub ReadsMember : (folder : List ℕ) → ℕ → Result MemberLists Open
 ReadsMember folder member result files = ReadsNames (list_names folder member) (AreListsOf folder member) result files
 
 pub none_read : (o : Option Files) (folder : List ℕ) (lists : Listed MemberLists) → lists.items ≡ [] → ForSome o (ReadsMembers folder [] (Ok lists))
-none_read o folder lists none = told_anyway o _ (λ files. (All-nil (IsShort files), rw none refl))
+none_read o folder lists none = told_anyway o _ (λ files. (All-nil (IsShortOnHost files), rw none refl))
 
 pub members_more : (o : Option Files) (folder : List ℕ) (members : List ℕ) (member : ℕ) (old new : Listed MemberLists) (lists : MemberLists) → ForSome o (ReadsMembers folder members (Ok old))
     → ForSome o (ReadsMember folder member (Ok lists)) → new.items ≡ old.items ++ lists ∷ [] → ForSome o (ReadsMembers folder (members ++ member ∷ []) (Ok new))
 members_more o folder members member old new lists so_far this is =
     told_both o _ _ _ so_far this (λ files before here.
     let names : flat_map (list_names folder) (members ++ member ∷ []) ≡ flat_map (list_names folder) members ++ list_names folder member = flat_map-append (list_names folder) members (member ∷ []) in (
-      subst (All (IsShort files)) (sym names) (All-append (IsShort files) (flat_map (list_names folder) members) (list_names folder member) before.0 here.0),
+      subst (All (IsShortOnHost files)) (sym names) (All-append (IsShortOnHost files) (flat_map (list_names folder) members) (list_names folder member) before.0 here.0),
       rw (is, map-append lists_view old.items (lists ∷ []), map-append (lists_in (host_media files folder)) members (member ∷ []), before.1, here.1) refl,
     ))
 

@@ -7,7 +7,7 @@ use Rattle.std.proofs.lemmas.List.{drop_more, length-map, map-append}
 use Rattle.std.proofs.lemmas.Option.{slice_get-map, slice_get_read}
 use Rattle.load_base.specs.Bytes.{same_bytes}
 use Rattle.batch_lists.specs.declared.batches.BatchEntry.{BatchEntry}
-use Rattle.media_check.specs.Batches.{AreKept, HaveFirst, KeptBatchView, batch_at, batch_kept, batch_kept_as, batch_kept_at, batch_of_entry, entry_at, first_batch, kept_view}
+use Rattle.media_check.specs.Batches.{AreKeptBatches, HaveFirst, KeptBatchView, batch_at, batch_kept, batch_kept_as, batch_kept_at, batch_of_entry, entry_at, first_batch, kept_view}
 use Rattle.media_check.specs.Kept.{ListedFileView}
 use Rattle.media_check.specs.declared.batches.KeptBatch.{KeptBatch}
 use Rattle.media_check.proofs.FindingLists.{mapped_more}
@@ -15,7 +15,7 @@ use Rattle.media_check.proofs.FindingLists.{mapped_more}
 -- ---- what is kept of each entry
 
 -- as many as there are entries
-pub as_many : (files : List (List ℕ × ListedFileView)) (entries : List BatchEntry) (kept : List (Option KeptBatch)) → AreKept files entries kept → length kept ≡ length entries
+pub as_many : (files : List (List ℕ × ListedFileView)) (entries : List BatchEntry) (kept : List (Option KeptBatch)) → AreKeptBatches files entries kept → length kept ≡ length entries
 as_many files entries kept are = sym (length-map kept kept_view) ∙ ap length are ∙ length-map entries (batch_at files)
 
 -- one more entry
@@ -27,11 +27,11 @@ kept_more files entries i entry old new this within is so_far found more =
     ∙ ap (λ (k : Option KeptBatchView). map (batch_at files) (take i entries) ++ k ∷ []) found ∙ sym (mapped_more (batch_at files) entries i entry within is)
 
 -- what is kept at the place of an entry is what is found of it
-same_place : (files : List (List ℕ × ListedFileView)) (entries : List BatchEntry) (kept : List (Option KeptBatch)) (i : ℕ) → AreKept files entries kept
+same_place : (files : List (List ℕ × ListedFileView)) (entries : List BatchEntry) (kept : List (Option KeptBatch)) (i : ℕ) → AreKeptBatches files entries kept
     → option_map kept_view (slice_get kept i) ≡ option_map (batch_at files) (slice_get entries i)
 same_place files entries kept i are = sym (slice_get-map kept_view kept i) ∙ ap (λ (l : List (Option KeptBatchView)). slice_get l i) are ∙ slice_get-map (batch_at files) entries i
 
-pub kept_at : (files : List (List ℕ × ListedFileView)) (entries : List BatchEntry) (kept : List (Option KeptBatch)) (i : ℕ) (entry : BatchEntry) (this : Option KeptBatch) → AreKept files entries kept
+pub kept_at : (files : List (List ℕ × ListedFileView)) (entries : List BatchEntry) (kept : List (Option KeptBatch)) (i : ℕ) (entry : BatchEntry) (this : Option KeptBatch) → AreKeptBatches files entries kept
     → i < length entries → entry ≡ get_or entries i entry → this ≡ get_or kept i this → kept_view this ≡ batch_at files entry
 kept_at files entries kept i entry this are within is at =
     let beside : i < length kept = omega (arith, within, as_many files entries kept are) in
@@ -70,7 +70,7 @@ of_place files (Some k) None e = absurd cc
 of_place files (Some k) (Some x) e = let same : kept_view k ≡ batch_at files x = cc in ap batch_kept same
 
 pub found_by_part : (files : List (List ℕ × ListedFileView)) (entries : List BatchEntry) (kept : List (Option KeptBatch)) (indices : List (List ℕ × ℕ)) (part : List ℕ) (index : ℕ)
-    → Some index ≡ lookup (same_bytes part) indices → AreKept files entries kept → HaveFirst indices entries → batch_kept_at kept index ≡ batch_of_entry files (first_batch part entries)
+    → Some index ≡ lookup (same_bytes part) indices → AreKeptBatches files entries kept → HaveFirst indices entries → batch_kept_at kept index ≡ batch_of_entry files (first_batch part entries)
 found_by_part files entries kept indices part index found are first =
     let is : slice_get entries index ≡ first_batch part entries = ap (entry_at entries) found ∙ first part in
     of_place files (slice_get kept index) (slice_get entries index) (same_place files entries kept index are) ∙ ap (batch_of_entry files) is

@@ -18,7 +18,7 @@ use Rattle.media_lists.specs.ListFields.{AreNew}
 use Rattle.media_lists.specs.declared.lists.ListedFile.{ListedFile}
 use Rattle.media_check.specs.HostNames.{host_media, listed_name}
 use Rattle.media_check.specs.Kept.{bytes_view, contents, IsShortFile}
-use Rattle.media_check.specs.Openings.{IsShort, ReadsNames, KeepsNext, KeepsListed, length_on_host, total_of, largest_set}
+use Rattle.media_check.specs.Openings.{IsShortOnHost, ReadsNames, KeepsNext, KeepsListed, length_on_host, total_of, largest_set}
 use Rattle.media_check.specs.Sets.{ListedFileView, file_view, files_view, file_in}
 use Rattle.media_check.specs.declared.fault.OpenFault.{OpenFault}
 use Rattle.media_check.specs.declared.fault.OpenFault.TheVariants.{TooLong, TooLarge, Failed, Memory}
@@ -56,7 +56,7 @@ pub next_large : (o : Option Files) (folder : List ℕ) (entry : ListedFile) (na
 next_large o folder entry name total sum old new bytes same reads is passes =
     told_also o _ _ reads (λ files read.
     let size : length (contents (bytes_view bytes)) ≡ length_on_host files name = ap (λ (b : Option (List ℕ)). length (contents b)) read.1 in
-    subst (λ (n : List ℕ). IsShort files n × (largest_set < total + length_on_host files n)) same (read.0 0 name (omega arith), omega (arith, size, is, passes)))
+    subst (λ (n : List ℕ). IsShortOnHost files n × (largest_set < total + length_on_host files n)) same (read.0 0 name (omega arith), omega (arith, size, is, passes)))
 
 pub next_read : (o : Option Files) (folder : List ℕ) (entry : ListedFile) (name : List ℕ) (total sum : ℕ) (old new : List (List ℕ × KeptFile)) (bytes : Option (Listed ℕ)) → name ≡ listed_name folder entry
     → ForSome o (ReadsNames (name ∷ []) (λ files (f : Option (Listed ℕ)). bytes_view f ≡ files name) (Ok bytes)) → sum ≡ total + length (contents (bytes_view bytes))
@@ -65,7 +65,7 @@ next_read o folder entry name total sum old new bytes same reads is appended =
     told_also o _ _ reads (λ files read.
     let size : length (contents (bytes_view bytes)) ≡ length_on_host files name = ap (λ (b : Option (List ℕ)). length (contents b)) read.1 in
     let there : bytes_view bytes ≡ files (listed_name folder entry) = read.1 ∙ ap files same in (
-      subst (IsShort files) same (read.0 0 name (omega arith)),
+      subst (IsShortOnHost files) same (read.0 0 name (omega arith)),
       is ∙ ap (λ (n : ℕ). total + n) (size ∙ ap (length_on_host files) same),
       ap files_view appended ∙ seen_more old entry.name (record { member = entry.member; bytes = bytes })
           ∙ ap (λ (b : Option (List ℕ)). files_view old ++ (let file : List ℕ × ListedFileView = (entry.name, record { member = entry.member; bytes = b }) in file) ∷ []) there,
@@ -76,11 +76,11 @@ next_read o folder entry name total sum old new bytes same reads is appended =
 -- these entries were read, and are kept in their order, with `total` bytes together
 pub record KeptSoFar (folder : List ℕ) (entries : List ListedFile) (total : ℕ) (kept : List (List ℕ × KeptFile)) (files : Files) : Type 0 where
   pub total_is : total ≡ total_of files (map (listed_name folder) entries)
-  pub short : All (IsShort files) (map (listed_name folder) entries)
+  pub short : All (IsShortOnHost files) (map (listed_name folder) entries)
   pub same : files_view kept ≡ map (file_in (host_media files folder)) entries
 
 pub none_kept : (o : Option Files) (folder : List ℕ) (kept : List (List ℕ × KeptFile)) → kept ≡ [] → ForSome o (KeptSoFar folder [] 0 kept)
-none_kept o folder kept none = told_anyway o _ (λ files. record { total_is = refl; short = All-nil (IsShort files); same = rw none refl })
+none_kept o folder kept none = told_anyway o _ (λ files. record { total_is = refl; short = All-nil (IsShortOnHost files); same = rw none refl })
 
 pub kept_more : (o : Option Files) (folder : List ℕ) (entries : List ListedFile) (entry : ListedFile) (total sum : ℕ) (old new : List (List ℕ × KeptFile)) → ForSome o (KeptSoFar folder entries total old)
     → ForSome o (KeepsNext folder entry total old new (Ok sum)) → ForSome o (KeptSoFar folder (entries ++ entry ∷ []) sum new)
@@ -92,7 +92,7 @@ kept_more o folder entries entry total sum old new so_far next =
     let one : total_of files (listed_name folder entry ∷ []) ≡ length_on_host files (listed_name folder entry) = omega arith in
     record {
       total_is = rw names (omega (arith, together, one, before.total_is, here.1));
-      short = subst (All (IsShort files)) (sym names) (All-push (IsShort files) (map (listed_name folder) entries) (listed_name folder entry) before.short here.0);
+      short = subst (All (IsShortOnHost files)) (sym names) (All-push (IsShortOnHost files) (map (listed_name folder) entries) (listed_name folder entry) before.short here.0);
       same = here.2 ∙ ap (λ (l : List _). l ++ file_in (host_media files folder) entry ∷ []) before.same ∙ sym (map-append (file_in (host_media files folder)) entries (entry ∷ []));
     })
 

@@ -12,3 +12,4 @@ pub mod Reading
 pub mod Refusals
 pub mod Same
 pub mod Taken
+pub mod OpeningLemmas

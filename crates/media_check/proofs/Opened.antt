@@ -16,7 +16,7 @@ use Rattle.media_lists.specs.Loads.{loads_list, loads_list_view}
 use Rattle.media_lists.specs.declared.lists.FilesList.{FilesList}
 use Rattle.media_lists.specs.declared.lists.LoadsList.{LoadsList}
 use Rattle.media_check.specs.HostNames.{host_media, loads_name, files_name, batches_name, list_names, further_reading, whole_reading}
-use Rattle.media_check.specs.Openings.{IsShort, IsFirstLong, ReadsNames, ReadsList, Reads, CanRead, KeepsListed, Opens, OpensRest}
+use Rattle.media_check.specs.Openings.{IsShortOnHost, IsFirstLong, ReadsNames, ReadsList, ReadsSet, CanRead, KeepsListed, Opens, OpensRest}
 use Rattle.media_check.specs.Sets.{MemberView, SetView, found_view, further_members, entries_of, lists_view, lists_in, files_view, set_with, set_in}
 use Rattle.media_check.specs.declared.fault.OpenFault.{OpenFault}
 use Rattle.media_check.specs.declared.fault.OpenFault.TheVariants.{TooLong, TooLarge, Failed, Memory}
@@ -48,7 +48,7 @@ pub files_unread : {M : Type 0} (o : Option Files) (read : Result M OpenFault) (
     → ForSome o (OpensRest folder first (Err fault))
 files_unread {M = M} o read entries_in folder first further fault lists listed = told_both o _ _ _ lists listed (λ files before refused. go files before.0 fault refused)
   where
-    go : (files : Files) → All (IsShort files) (flat_map (list_names folder) (further_members first.loads)) → (fault : OpenFault)
+    go : (files : Files) → All (IsShortOnHost files) (flat_map (list_names folder) (further_members first.loads)) → (fault : OpenFault)
         → KeepsListed entries_in folder (entries_of first.files) (Err fault) files → OpensRest folder first (Err fault) files
     go files short (TooLong name) refused = inr (short, refused)
     go files short TooLarge refused = (short, refused)
@@ -58,19 +58,19 @@ files_unread {M = M} o read entries_in folder first further fault lists listed =
 -- ---- the whole
 
 -- what is read after the lists of member 1 is read as a part of the whole
-whole_of : (files : Files) (folder : List ℕ) (first : MemberView) (set : SetView) (result : Result MediaSet OpenFault) → All (IsShort files) (list_names folder 1)
-    → Reads files (further_reading folder first) set result → Reads files (whole_reading folder first) set result
+whole_of : (files : Files) (folder : List ℕ) (first : MemberView) (set : SetView) (result : Result MediaSet OpenFault) → All (IsShortOnHost files) (list_names folder 1)
+    → ReadsSet files (further_reading folder first) set result → ReadsSet files (whole_reading folder first) set result
 whole_of files folder first set (Ok opened) short reads = (
-  record { lists = All-append (IsShort files) (list_names folder 1) _ short reads.0.lists; listed = reads.0.listed; together = reads.0.together },
+  record { lists = All-append (IsShortOnHost files) (list_names folder 1) _ short reads.0.lists; listed = reads.0.listed; together = reads.0.together },
   reads.1,
 )
 whole_of files folder first set (Err (TooLong name)) short reads =
     elim reads [
       | inl long ↦ inl (subst (λ (names : List (List ℕ)). IsFirstLong files (list_names folder 1 ++ names) name.items) (append-nil _)
           (first_long_later files (list_names folder 1) _ [] name.items short long))
-      | inr listed ↦ inr (All-append (IsShort files) (list_names folder 1) _ short listed.0, listed.1)
+      | inr listed ↦ inr (All-append (IsShortOnHost files) (list_names folder 1) _ short listed.0, listed.1)
     ]
-whole_of files folder first set (Err TooLarge) short reads = (All-append (IsShort files) (list_names folder 1) _ short reads.0, reads.1)
+whole_of files folder first set (Err TooLarge) short reads = (All-append (IsShortOnHost files) (list_names folder 1) _ short reads.0, reads.1)
 whole_of files folder first set (Err Failed) short reads = tt
 whole_of files folder first set (Err Memory) short reads = tt
 
@@ -83,7 +83,7 @@ whole_read o folder loads listed batches result first second third rest =
     (λ files read reads.
     let seen : MemberView = record { loads = found_view loads_list_view loads; files = found_view files_list_view listed; batches = found_view batches_list_view batches } in
     let is : seen ≡ lists_in (host_media files folder) 1 = read.1 in
-    subst (λ (view : MemberView). Reads files (whole_reading folder view) (set_with (host_media files folder) view) result) is
+    subst (λ (view : MemberView). ReadsSet files (whole_reading folder view) (set_with (host_media files folder) view) result) is
     (whole_of files folder seen (set_with (host_media files folder) seen) result read.0 reads))
 
 -- a list of member 1 is refused, after those before it were read

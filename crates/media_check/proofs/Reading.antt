@@ -1,7 +1,7 @@
 -- What reading the bytes of a list or a batch gives.
 use Rattle.std.proofs.Common.{◌≡◌, ◌≢◌, ℕ, List, Ok, Err, sym, ap, ◌⊎◌, inl, inr}
 use Rattle.field_grammar.specs.Answers.{answer}
-use Rattle.field_grammar.specs.ExactLaws.{answer-spelled, answer-fault, spelled_at_start}
+use Rattle.field_grammar.proofs.ExactLemmas.{answer-spelled, answer-fault, spelled_at_start}
 use Rattle.field_grammar.specs.Grammar.{Grammar, Spelled, Fault}
 use Rattle.load_header.specs.Header.{header, HeaderView}
 use Rattle.load_header.specs.declared.fault.HeaderFault.{HeaderFault}

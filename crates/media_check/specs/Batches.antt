@@ -51,8 +51,8 @@ batch_of_entry files (Some entry) = batch_kept (batch_at files entry)
 -- ---- what is kept of them
 
 -- Each entry has beside it what is found of its file.
-abbrev pub AreKept : List (List ℕ × ListedFileView) → List BatchEntry → List (Option KeptBatch) → Type 0
-AreKept files entries kept = map kept_view kept ≡ map (batch_at files) entries
+abbrev pub AreKeptBatches : List (List ℕ × ListedFileView) → List BatchEntry → List (Option KeptBatch) → Type 0
+AreKeptBatches files entries kept = map kept_view kept ≡ map (batch_at files) entries
 
 abbrev pub entry_at : List BatchEntry → Option ℕ → Option BatchEntry
 entry_at entries None = None

@@ -9,7 +9,7 @@ use Rattle.media_lists.specs.Files.{files_list}
 use Rattle.media_lists.specs.Loads.{loads_list}
 use Rattle.media_lists.specs.declared.lists.ListedFile.{ListedFile}
 use Rattle.media_check.specs.Kept.{bytes_view, contents}
-use Rattle.media_check.specs.Sets.{Media, MemberView, ListedFileView, found_in}
+use Rattle.media_check.specs.Sets.{MediaBytes, MemberView, ListedFileView, found_in}
 use Rattle.media_check.specs.declared.built.Built.{Built}
 use Rattle.media_check.specs.declared.built.Placed.{Placed}
 
@@ -22,7 +22,7 @@ abbrev pub body_of : List Placed → List ℕ → Option (List ℕ)
 body_of bodies name = lookup (same_bytes name) (map (λ body. (body.name, body.bytes.items)) bodies)
 
 -- The media that were built: the lists of each member, and for an entry of FILES.LUM the body of its name.
-abbrev pub built_media : Built → Media
+abbrev pub built_media : Built → MediaBytes
 built_media built = record {
   loads_list = member_list built.loads.items;
   files_list = member_list built.files.items;

@@ -1,10 +1,10 @@
--- Where the files of a media set lie in a folder of the host (docs/FORMATS.md, "Media sets").
+-- Where the files of a media set lie in a folder of the host (docs/FORMATS.md, "MediaBytes sets").
 use Rattle.std.specs.Prelude.{ℕ, List, [], ◌∷◌, ◌++◌, codes, map, ◌==◌, if◌then◌else◌}
 use Rattle.std.specs.Fmt.{decimal}
 use Rattle.std.specs.List.{flat_map}
 use Rattle.load_base.specs.Host.{Files}
 use Rattle.media_lists.specs.declared.lists.ListedFile.{ListedFile}
-use Rattle.media_check.specs.Sets.{MemberView, Media, further_members, entries_of}
+use Rattle.media_check.specs.Sets.{MemberView, MediaBytes, further_members, entries_of}
 
 -- a byte of a path as the host has it: a slash for a backslash
 abbrev pub slashed : ℕ → ℕ
@@ -29,7 +29,7 @@ abbrev pub listed_name : (folder : List ℕ) → ListedFile → List ℕ
 listed_name folder entry = host_name folder entry.member entry.path entry.name
 
 -- the media in a folder of a host that has these files
-abbrev pub host_media : Files → (folder : List ℕ) → Media
+abbrev pub host_media : Files → (folder : List ℕ) → MediaBytes
 host_media files folder = record {
   loads_list = λ member. files (loads_name folder member);
   files_list = λ member. files (files_name folder member);
@@ -44,19 +44,19 @@ abbrev pub list_names : (folder : List ℕ) (member : ℕ) → List (List ℕ)
 list_names folder member = loads_name folder member ∷ files_name folder member ∷ batches_name folder member ∷ []
 
 -- the names that an opening reads: those of lists, and after them those of listed files
-pub record Reading : Type 0 where
+pub record ReadingOrder : Type 0 where
   pub lists : List (List ℕ)
   pub files : List (List ℕ)
 
 -- what is read where member 1 has these lists: the lists of the further members, and the listed files
-abbrev pub further_reading : (folder : List ℕ) → MemberView → Reading
+abbrev pub further_reading : (folder : List ℕ) → MemberView → ReadingOrder
 further_reading folder first = record {
   lists = flat_map (list_names folder) (further_members first.loads);
   files = map (listed_name folder) (entries_of first.files);
 }
 
 -- the whole, where member 1 has these lists
-abbrev pub whole_reading : (folder : List ℕ) → MemberView → Reading
+abbrev pub whole_reading : (folder : List ℕ) → MemberView → ReadingOrder
 whole_reading folder first = record {
   lists = list_names folder 1 ++ flat_map (list_names folder) (further_members first.loads);
   files = map (listed_name folder) (entries_of first.files);

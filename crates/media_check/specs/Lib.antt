@@ -3,6 +3,5 @@ pub mod Batches
 pub mod Sets
 pub mod HostNames
 pub mod Openings
-pub mod OpeningLaws
 pub mod BuiltSets
 pub mod Findings

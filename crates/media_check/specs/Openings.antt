@@ -7,7 +7,7 @@ use Rattle.field_grammar.specs.Grammar.{Grammar}
 use Rattle.media_check.specs.Kept.{contents}
 use Rattle.media_check.specs.Sets.{MemberView, SetView, found_in, found_view, lists_in, file_in, files_view, set_with, set_in, set_view}
 use Rattle.media_lists.specs.declared.lists.ListedFile.{ListedFile}
-use Rattle.media_check.specs.HostNames.{host_media, listed_name, Reading, further_reading, whole_reading}
+use Rattle.media_check.specs.HostNames.{host_media, listed_name, ReadingOrder, further_reading, whole_reading}
 use Rattle.media_check.specs.declared.fault.OpenFault.{OpenFault}
 use Rattle.media_check.specs.declared.fault.OpenFault.TheVariants.{TooLong, TooLarge, Failed, Memory}
 use Rattle.media_check.specs.declared.found.Found.{Found}
@@ -23,17 +23,17 @@ abbrev pub length_on_host : Files → List ℕ → ℕ
 length_on_host files name = length (contents (files name))
 
 -- there is no file of this name, or it has at most 16,777,215 bytes
-abbrev pub IsShort : Files → List ℕ → Type 0
-IsShort files name = length_on_host files name ≤ longest_file
+abbrev pub IsShortOnHost : Files → List ℕ → Type 0
+IsShortOnHost files name = length_on_host files name ≤ longest_file
 
 -- how many bytes the files of these names have together
 abbrev pub total_of : Files → List (List ℕ) → ℕ
 total_of files names = sum_by (length_on_host files) names
 
 -- No file is too long, and the listed files aren't too large together.
-pub record CanRead (files : Files) (reading : Reading) : Type 0 where
-  pub lists : All (IsShort files) reading.lists
-  pub listed : All (IsShort files) reading.files
+pub record CanRead (files : Files) (reading : ReadingOrder) : Type 0 where
+  pub lists : All (IsShortOnHost files) reading.lists
+  pub listed : All (IsShortOnHost files) reading.files
   pub together : total_of files reading.files ≤ largest_set
 
 -- This is the first of these names whose file is too long.
@@ -41,7 +41,7 @@ pub record IsFirstLong (files : Files) (names : List (List ℕ)) (name : List �
   pub before : List (List ℕ)
   pub after : List (List ℕ)
   pub stands : names ≡ before ++ name ∷ after
-  pub others : All (IsShort files) before
+  pub others : All (IsShortOnHost files) before
   pub long : longest_file < length_on_host files name
 
 -- This is the first of these names whose file is too long, and those before it aren't too large together.
@@ -55,41 +55,41 @@ pub record IsFirstLarge (files : Files) (names : List (List ℕ)) : Type 0 where
   pub name : List ℕ
   pub after : List (List ℕ)
   pub stands : names ≡ before ++ name ∷ after
-  pub others : All (IsShort files) before
-  pub this : IsShort files name
+  pub others : All (IsShortOnHost files) before
+  pub this : IsShortOnHost files name
   pub together : total_of files before ≤ largest_set
   pub passes : largest_set < total_of files before + length_on_host files name
 
 -- This name is what an opening refuses as too long: of a list, or of a listed file once all lists were read.
-abbrev pub IsTooLong : Files → Reading → List ℕ → Type 0
+abbrev pub IsTooLong : Files → ReadingOrder → List ℕ → Type 0
 IsTooLong files reading name =
-    IsFirstLong files reading.lists name ⊎ (All (IsShort files) reading.lists × IsLongBeforeLarge files reading.files name)
+    IsFirstLong files reading.lists name ⊎ (All (IsShortOnHost files) reading.lists × IsLongBeforeLarge files reading.files name)
 
 -- An opening refuses the set as too large.
-abbrev pub IsTooLarge : Files → Reading → Type 0
-IsTooLarge files reading = All (IsShort files) reading.lists × IsFirstLarge files reading.files
+abbrev pub IsTooLarge : Files → ReadingOrder → Type 0
+IsTooLarge files reading = All (IsShortOnHost files) reading.lists × IsFirstLarge files reading.files
 
 -- What is read in this order is the set, or refused where it is the first that can't be read. Failed and Memory say
 -- nothing of the host's files.
-abbrev pub Reads : Files → Reading → SetView → Result MediaSet OpenFault → Type 0
-Reads files reading set (Ok opened) = CanRead files reading × (set_view opened ≡ set)
-Reads files reading set (Err (TooLong name)) = IsTooLong files reading name.items
-Reads files reading set (Err TooLarge) = IsTooLarge files reading
-Reads files reading set (Err Failed) = Unit {0}
-Reads files reading set (Err Memory) = Unit {0}
+abbrev pub ReadsSet : Files → ReadingOrder → SetView → Result MediaSet OpenFault → Type 0
+ReadsSet files reading set (Ok opened) = CanRead files reading × (set_view opened ≡ set)
+ReadsSet files reading set (Err (TooLong name)) = IsTooLong files reading name.items
+ReadsSet files reading set (Err TooLarge) = IsTooLarge files reading
+ReadsSet files reading set (Err Failed) = Unit {0}
+ReadsSet files reading set (Err Memory) = Unit {0}
 
 -- opening a set in a folder
 abbrev pub Opens : (folder : List ℕ) → Result MediaSet OpenFault → Files → Type 0
 Opens folder result files =
-    Reads files (whole_reading folder (lists_in (host_media files folder) 1)) (set_in (host_media files folder)) result
+    ReadsSet files (whole_reading folder (lists_in (host_media files folder) 1)) (set_in (host_media files folder)) result
 
 -- the same once the lists of member 1 were read
 abbrev pub OpensRest : (folder : List ℕ) → MemberView → Result MediaSet OpenFault → Files → Type 0
-OpensRest folder first result files = Reads files (further_reading folder first) (set_with (host_media files folder) first) result
+OpensRest folder first result files = ReadsSet files (further_reading folder first) (set_with (host_media files folder) first) result
 
--- Reading the files of these names gives what is to be had of them, or refuses the first that is too long.
+-- ReadingOrder the files of these names gives what is to be had of them, or refuses the first that is too long.
 abbrev pub ReadsNames : {T : Type 0} → (names : List (List ℕ)) → (IsRead : Files → T → Type 0) → Result T OpenFault → Files → Type 0
-ReadsNames names IsRead (Ok x) files = All (IsShort files) names × IsRead files x
+ReadsNames names IsRead (Ok x) files = All (IsShortOnHost files) names × IsRead files x
 ReadsNames names IsRead (Err (TooLong name)) files = IsFirstLong files names name.items
 ReadsNames names IsRead (Err TooLarge) files = ⊥
 ReadsNames names IsRead (Err Failed) files = Unit {0}
@@ -114,19 +114,19 @@ pub record HasOpenCause {T : Type 0} (before now : ℕ) (result : Result T OpenF
 -- The next listed file was read, and is kept with those before it, which have `total` bytes together; or it is refused.
 abbrev pub KeepsNext : (folder : List ℕ) → ListedFile → (total : ℕ) → (old new : List (List ℕ × KeptFile)) → Result ℕ OpenFault → Files → Type 0
 KeepsNext folder entry total old new (Ok sum) files =
-    IsShort files (listed_name folder entry) × (sum ≡ total + length_on_host files (listed_name folder entry))
+    IsShortOnHost files (listed_name folder entry) × (sum ≡ total + length_on_host files (listed_name folder entry))
     × (files_view new ≡ files_view old ++ file_in (host_media files folder) entry ∷ [])
 KeepsNext folder entry total old new (Err (TooLong name)) files =
     (name.items ≡ listed_name folder entry) × (longest_file < length_on_host files (listed_name folder entry))
 KeepsNext folder entry total old new (Err TooLarge) files =
-    IsShort files (listed_name folder entry) × (largest_set < total + length_on_host files (listed_name folder entry))
+    IsShortOnHost files (listed_name folder entry) × (largest_set < total + length_on_host files (listed_name folder entry))
 KeepsNext folder entry total old new (Err Failed) files = Unit {0}
 KeepsNext folder entry total old new (Err Memory) files = Unit {0}
 
 -- All the listed files were read and are kept in their order; or the first that can't be is refused.
 abbrev pub KeepsListed : {M : Type 0} → (M → List (List ℕ × KeptFile)) → (folder : List ℕ) → List ListedFile → Result M OpenFault → Files → Type 0
 KeepsListed entries_in folder entries (Ok kept) files =
-    All (IsShort files) (map (listed_name folder) entries) × (total_of files (map (listed_name folder) entries) ≤ largest_set)
+    All (IsShortOnHost files) (map (listed_name folder) entries) × (total_of files (map (listed_name folder) entries) ≤ largest_set)
     × (files_view (entries_in kept) ≡ map (file_in (host_media files folder)) entries)
 KeepsListed entries_in folder entries (Err (TooLong name)) files = IsLongBeforeLarge files (map (listed_name folder) entries) name.items
 KeepsListed entries_in folder entries (Err TooLarge) files = IsFirstLarge files (map (listed_name folder) entries)

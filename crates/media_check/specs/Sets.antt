@@ -1,4 +1,4 @@
--- A media set as a value: the lists of its members as they were found, and the listed files (docs/FORMATS.md, "Media sets").
+-- A media set as a value: the lists of its members as they were found, and the listed files (docs/FORMATS.md, "MediaBytes sets").
 pub use Rattle.media_check.specs.Kept.{ListedFileView, found_as, found_in, found_view, entries_of, file_view, files_view}
 use Rattle.std.specs.Prelude.{◌≡◌, ℕ, ◌-◌, ◌≤◌, List, [], length, map, Option, Some, None}
 use Rattle.std.specs.List.{range_with_len}
@@ -65,14 +65,14 @@ batch_of set part = batch_of_entry set.files (first_batch part (entries_of set.f
 
 -- The bytes that media have: of the lists of each member, and of the file that an entry of FILES.LUM names. None is a
 -- file that is absent.
-pub record Media : Type 0 where
+pub record MediaBytes : Type 0 where
   pub loads_list : (member : ℕ) → Option (List ℕ)
   pub files_list : (member : ℕ) → Option (List ℕ)
   pub batches_list : (member : ℕ) → Option (List ℕ)
   pub listed : ListedFile → Option (List ℕ)
 
 -- the lists of this member
-abbrev pub lists_in : Media → (member : ℕ) → MemberView
+abbrev pub lists_in : MediaBytes → (member : ℕ) → MemberView
 lists_in media member = record {
   loads = found_in loads_list (media.loads_list member);
   files = found_in files_list (media.files_list member);
@@ -86,11 +86,11 @@ further_members Missing = []
 further_members (Refused fault) = []
 
 -- a listed file by its name, with the bytes that the media have of it
-abbrev pub file_in : Media → ListedFile → List ℕ × ListedFileView
+abbrev pub file_in : MediaBytes → ListedFile → List ℕ × ListedFileView
 file_in media entry = (entry.name, record { member = entry.member; bytes = media.listed entry })
 
 -- the set with these lists of member 1
-abbrev pub set_with : Media → MemberView → SetView
+abbrev pub set_with : MediaBytes → MemberView → SetView
 set_with media first = record {
   first = first;
   further = map (lists_in media) (further_members first.loads);
@@ -98,7 +98,7 @@ set_with media first = record {
 }
 
 -- the set that the media tell
-abbrev pub set_in : Media → SetView
+abbrev pub set_in : MediaBytes → SetView
 set_in media = set_with media (lists_in media 1)
 
 -- ---- what is kept

@@ -8,15 +8,16 @@ ghost use Rattle.indexmap.specs.IndexSet.{contains as has};
 ghost use Rattle.load_base.specs.Bytes.{same_bytes};
 ghost use Rattle.media_lists.specs.Files.{files_list_view};
 ghost use Rattle.media_lists.specs.Loads.{loads_list_view, load_entry_view};
-ghost use Rattle.media_check.specs.Batches.{AreKept, kept_view};
-ghost use Rattle.media_check.specs.Findings.{all_batches_findings, batches_findings, batch_findings};
+ghost use Rattle.media_check.specs.Batches.{AreKeptBatches, kept_view};
+ghost use Rattle.media_check.specs.Findings.{all_batches_findings, batches_findings};
+ghost use Rattle.media_check.specs.Findings.{batch_findings};
 ghost use Rattle.media_check.specs.Findings.{batches_list_findings, of_members, list_findings};
 ghost use Rattle.batch_lists.specs.FaultTexts.{batches_fault_text};
 ghost use Rattle.media_check.specs.Findings.{batches_sort, is_members_list, agrees, same_batch};
 ghost use Rattle.media_check.specs.Findings.{detailed};
 ghost use Rattle.media_check.specs.Findings.{found_batch_findings, kept_batch_findings};
-ghost use Rattle.media_check.specs.Findings.{read_batch_findings, part_findings, parts_of};
-ghost use Rattle.media_check.specs.Findings.{is_part_of, is_there as there, has_batches};
+ghost use Rattle.media_check.specs.Findings.{read_batch_findings, part_findings};
+ghost use Rattle.media_check.specs.Findings.{is_part_of, has_batches};
 ghost use Rattle.media_check.specs.Kept.{entries_of, files_view, found_view};
 ghost use Rattle.media_check.specs.Sets.{lists_view, set_view};
 
@@ -24,7 +25,6 @@ use crate::batches::KeptBatch;
 use crate::comparing::same_batches_list;
 use crate::finding::{Finding, put, put_detailed, put_detailed_of_list, put_of_list, put_where};
 use crate::found::Found;
-use crate::part_key::PartKey;
 use crate::set::{MediaSet, MemberLists};
 use batch_lists::{Batch, BatchEntry, BatchTarget, BatchesFault, BatchesList};
 use indexmap::IndexSet;
@@ -34,7 +34,7 @@ use part_number::PartNumber;
 use printed_text::Printed;
 use std::alloc::Global;
 
-// The kinds of findings of lists of batches and of batches (docs/FORMATS.md).
+/// The kinds of findings of lists of batches and of batches (docs/FORMATS.md).
 const LIST_MISSING: u8 = 13;
 
 const LIST_REFUSED: u8 = 14;
@@ -73,7 +73,7 @@ pub(crate) fn put_batches(
     }
 }
 
-// Whether a member has a list of batches.
+/// Whether a member has a list of batches.
 #[tactic(auto, using(crate::proofs::BatchFindings::any_seen))]
 fn lists_batches(set: &MediaSet) -> bool
     ensures { result ≡ list_any has_batches
@@ -110,14 +110,14 @@ fn put_all(
     put_entries(alloc, out, set, &parts)
 }
 
-// The part numbers of loads.
-fn parts_of_loads(alloc: Global, loads: &[LoadEntry]) -> Result<IndexSet<PartKey>, NoMemory>
+/// The part numbers of loads.
+fn parts_of_loads(alloc: Global, loads: &[LoadEntry]) -> Result<IndexSet<PartNumber>, NoMemory>
     ensures { IfOk result (λ parts. (part : Items ℕ) → has same_bytes parts part
         ≡ is_part_of (map load_entry_view loads.now) part) }
 {
     let mut parts = IndexSet::new(alloc);
     for load in loads {
-        parts.insert(PartKey::of(&load.part))?;
+        parts.insert(load.part)?;
     }
     Ok(parts)
 }
@@ -139,7 +139,7 @@ fn put_further(alloc: Global, out: &mut List<Finding>, set: &MediaSet) -> Result
     Ok(())
 }
 
-// What is found of the list of batches of a member.
+/// What is found of the list of batches of a member.
 #[tactic(auto, unfolding(crate::specs::Findings::list_findings))]
 fn put_list(
     alloc: Global,
@@ -175,7 +175,7 @@ fn put_refused_list(
     put_detailed_of_list(alloc, out, LIST_REFUSED, member, b"BATCHES.LUM", detail)
 }
 
-// Whether the list is this member's, and that of member 1 but for the number of the member.
+/// Whether the list is this member's, and that of member 1 but for the number of the member.
 #[tactic(auto, unfolding(crate::specs::Findings::is_members_list))]
 fn is_list_of(member: u16, first: &Found<BatchesList, BatchesFault>, list: &BatchesList) -> bool
     ensures { result ≡ is_members_list same_batch member (found_view batches_list_view first.now)
@@ -194,12 +194,12 @@ fn agrees_with(first: &Found<BatchesList, BatchesFault>, list: &BatchesList) -> 
     }
 }
 
-// What is found of the entries of member 1's list, where it was read.
+/// What is found of the entries of member 1's list, where it was read.
 fn put_entries(
     alloc: Global,
     out: &mut List<Finding>,
     set: &MediaSet,
-    parts: &IndexSet<PartKey>,
+    parts: &IndexSet<PartNumber>,
 ) -> Result<(), NoMemory>
     ensures { OnOk result (out.new.items ≡ out.old.items
         ++ flat_map (batch_findings (set_view set.now) (has same_bytes parts.now))
@@ -211,15 +211,16 @@ fn put_entries(
     }
 }
 
-// The same of these entries, which are those of member 1's list.
+/// The same of these entries, which are those of member 1's list.
 fn put_each(
     alloc: Global,
     out: &mut List<Finding>,
     set: &MediaSet,
-    parts: &IndexSet<PartKey>,
+    parts: &IndexSet<PartNumber>,
     entries: &[BatchEntry],
 ) -> Result<(), NoMemory>
-    requires { AreKept (files_view set.now.files.entries) entries.now set.now.batches.kept.items }
+    requires { AreKeptBatches (files_view set.now.files.entries) entries.now
+        set.now.batches.kept.items }
     ensures { OnOk result (out.new.items ≡ out.old.items
         ++ flat_map (batch_findings (set_view set.now) (has same_bytes parts.now)) entries.now) }
 {
@@ -230,11 +231,11 @@ fn put_each(
     Ok(())
 }
 
-// What is found of an entry, beside what is kept of its file.
+/// What is found of an entry, beside what is kept of its file.
 fn put_entry(
     alloc: Global,
     out: &mut List<Finding>,
-    parts: &IndexSet<PartKey>,
+    parts: &IndexSet<PartNumber>,
     entry: &BatchEntry,
     kept: &Option<KeptBatch>,
 ) -> Result<(), NoMemory>
@@ -250,7 +251,7 @@ fn put_entry(
 fn put_found(
     alloc: Global,
     out: &mut List<Finding>,
-    parts: &IndexSet<PartKey>,
+    parts: &IndexSet<PartNumber>,
     entry: &BatchEntry,
     kept: &KeptBatch,
 ) -> Result<(), NoMemory>
@@ -268,12 +269,12 @@ fn put_found(
     }
 }
 
-// What is found of a batch whose file is in this member.
+/// What is found of a batch whose file is in this member.
 #[tactic(auto, unfolding(crate::specs::Findings::read_batch_findings))]
 fn put_batch(
     alloc: Global,
     out: &mut List<Finding>,
-    parts: &IndexSet<PartKey>,
+    parts: &IndexSet<PartNumber>,
     entry: &BatchEntry,
     member: u16,
     batch: &Batch,
@@ -294,11 +295,11 @@ fn put_batch(
     )
 }
 
-// What is found of the parts of these targets.
+/// What is found of the parts of these targets.
 fn put_targets(
     alloc: Global,
     out: &mut List<Finding>,
-    parts: &IndexSet<PartKey>,
+    parts: &IndexSet<PartNumber>,
     member: u16,
     file: &Name,
     targets: &[BatchTarget],
@@ -316,7 +317,7 @@ fn put_targets(
 fn put_parts(
     alloc: Global,
     out: &mut List<Finding>,
-    parts: &IndexSet<PartKey>,
+    parts: &IndexSet<PartNumber>,
     member: u16,
     file: &Name,
     given: &[PartNumber],
@@ -334,7 +335,7 @@ fn put_parts(
 fn put_part(
     alloc: Global,
     out: &mut List<Finding>,
-    parts: &IndexSet<PartKey>,
+    parts: &IndexSet<PartNumber>,
     member: u16,
     file: &Name,
     part: &PartNumber,
@@ -342,7 +343,7 @@ fn put_part(
     ensures { OnOk result (out.new.items ≡ out.old.items
         ++ part_findings (has same_bytes parts.now) member file.now part.now) }
 {
-    if parts.contains(&PartKey::of(part)) {
+    if parts.contains(part) {
         return Ok(());
     }
     let detail = Text::of_part(alloc, &part.text())?;

@@ -74,7 +74,7 @@ impl MediaSet {
     }
 }
 
-// The list of this member, where there is one.
+/// The list of this member, where there is one.
 fn list_of(lists: &[Bytes], member: u16) -> Option<&[u8]>
     requires { 1 ≤ member }
     ensures { option_map (λ list. list.now) result ≡ member_list lists.now member }
@@ -85,7 +85,7 @@ fn list_of(lists: &[Bytes], member: u16) -> Option<&[u8]>
     }
 }
 
-// The lists of this member, as their bytes are read.
+/// The lists of this member, as their bytes are read.
 fn member_lists(
     alloc: Global,
     loads: &[Bytes],
@@ -117,7 +117,7 @@ fn member_lists(
     })
 }
 
-// The lists of this many members from 2 on.
+/// The lists of this many members from 2 on.
 fn further_lists(
     alloc: Global,
     loads: &[Bytes],
@@ -139,7 +139,7 @@ fn further_lists(
     Ok(further)
 }
 
-// The bodies by their names; the first of a name counts.
+/// The bodies by their names; the first of a name counts.
 fn by_name(alloc: Global, bodies: List<Placed>) -> Result<IndexMap<Name, Bytes>, NoMemory>
     ensures { IfOk result (λ loose. (name : Items ℕ)
         → bytes_view (lookup (same_bytes name) loose.entries) ≡ body_of bodies.items name) }
@@ -152,8 +152,8 @@ fn by_name(alloc: Global, bodies: List<Placed>) -> Result<IndexMap<Name, Bytes>,
     Ok(loose)
 }
 
-// The files that member 1's list of files lists, each with the body of its name; none where it
-// wasn't read.
+/// The files that member 1's list of files lists, each with the body of its name; none where it
+/// wasn't read.
 fn listed_bodies(
     alloc: Global,
     files: &Found<FilesList, ListFault>,
@@ -171,7 +171,7 @@ fn listed_bodies(
     }
 }
 
-// These files, each with the body of its name.
+/// These files, each with the body of its name.
 fn bodies_of(
     alloc: Global,
     entries: &[ListedFile],

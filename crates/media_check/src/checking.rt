@@ -1,5 +1,5 @@
 //! All findings of a media set.
-ghost use Rattle.std.specs.Prelude.{◌≡◌, ◌++◌, ◌∷◌, [], ℕ, List as Items, map, codes, not, ◌&&◌};
+ghost use Rattle.std.specs.Prelude.{◌≡◌, ◌++◌, ◌∷◌, [], ℕ, List as Items, map, not, ◌&&◌};
 ghost use Rattle.std.specs.Prelude.{true, IfOk, OnOk};
 ghost use Rattle.std.specs.List.{flat_map};
 ghost use Rattle.load_base.specs.Bytes.{same_bytes};
@@ -30,7 +30,7 @@ use media_lists::{FilesList, ListFault, ListedFile, LoadEntry, LoadsList};
 use printed_text::Printed;
 use std::alloc::Global;
 
-// The kinds of findings of lists and of entries of `FILES.LUM` (docs/FORMATS.md).
+/// The kinds of findings of lists and of entries of `FILES.LUM` (docs/FORMATS.md).
 const LIST_MISSING: u8 = 1;
 
 const LIST_REFUSED: u8 = 2;
@@ -68,7 +68,7 @@ fn put_further(alloc: Global, out: &mut List<Finding>, set: &MediaSet) -> Result
     Ok(())
 }
 
-// What is found of the loads and the files that a member lists.
+/// What is found of the loads and the files that a member lists.
 #[tactic(auto, unfolding(crate::specs::Findings::member_findings))]
 fn put_member(
     alloc: Global,
@@ -143,7 +143,7 @@ fn put_refused_list(
     put_detailed_of_list(alloc, out, LIST_REFUSED, member, name, detail)
 }
 
-// Whether the list is this member's, and that of member 1 but for the number of the member.
+/// Whether the list is this member's, and that of member 1 but for the number of the member.
 #[tactic(auto, unfolding(crate::specs::Findings::is_members_list))]
 fn is_loads_list_of(member: u16, first: &Found<LoadsList, ListFault>, list: &LoadsList) -> bool
     ensures { result ≡ is_members_list same_load member (found_view loads_list_view first.now)
@@ -180,7 +180,7 @@ fn agrees_with_files(first: &Found<FilesList, ListFault>, list: &FilesList) -> b
     }
 }
 
-// What is found of the listed files and the loads, where both lists of member 1 were read.
+/// What is found of the listed files and the loads, where both lists of member 1 were read.
 fn put_contents(alloc: Global, out: &mut List<Finding>, set: &MediaSet) -> Result<(), NoMemory>
     ensures { OnOk result (out.new.items ≡ out.old.items ++ contents_findings (set_view set.now)
         (found_view loads_list_view set.now.first.loads)
@@ -225,7 +225,7 @@ fn put_entries(
     Ok(())
 }
 
-// The names of the headers of loads.
+/// The names of the headers of loads.
 fn header_names(alloc: Global, loads: &[LoadEntry]) -> Result<IndexSet<Name>, NoMemory>
     ensures { IfOk result (λ names. (name : Items ℕ) → has same_bytes names name
         ≡ is_listed load_name name (map load_entry_view loads.now)) }
@@ -237,7 +237,7 @@ fn header_names(alloc: Global, loads: &[LoadEntry]) -> Result<IndexSet<Name>, No
     Ok(names)
 }
 
-// What is found of an entry of `FILES.LUM`, the name of which loads name or not.
+/// What is found of an entry of `FILES.LUM`, the name of which loads name or not.
 fn put_entry(
     alloc: Global,
     out: &mut List<Finding>,

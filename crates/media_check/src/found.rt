@@ -28,6 +28,7 @@ pub(crate) fn loads_in(alloc: Global, bytes: &[u8]) -> Result<Found<LoadsList, L
     ensures { IfOk result (λ found. found_view loads_list_view found
         ≡ found_in loads_list (Some bytes.now)) }
 {
+    // For the proof: does nothing.
     loads_list_laws();
     match LoadsList::decode(alloc, bytes) {
         Ok(list) => Ok(Found::Read(list)),
@@ -42,6 +43,7 @@ pub(crate) fn files_in(alloc: Global, bytes: &[u8]) -> Result<Found<FilesList, L
         ≡ found_in files_list (Some bytes.now)) }
     ensures spelled { IfOk result (λ found. IsFoundFiles (found_view files_list_view found)) }
 {
+    // For the proof: does nothing.
     files_list_laws();
     match FilesList::decode(alloc, bytes) {
         Ok(list) => Ok(Found::Read(list)),
@@ -58,6 +60,7 @@ pub(crate) fn batches_in(
     ensures { IfOk result (λ found. found_view batches_list_view found
         ≡ found_in batches_list (Some bytes.now)) }
 {
+    // For the proof: does nothing.
     batches_list_laws();
     match BatchesList::decode(alloc, bytes) {
         Ok(list) => Ok(Found::Read(list)),
@@ -71,6 +74,7 @@ pub(crate) fn batch_in(alloc: Global, bytes: &[u8]) -> Result<Found<Batch, Batch
     ensures { IfOk result (λ found. found_view batch_view found
         ≡ found_in batch (Some bytes.now)) }
 {
+    // For the proof: does nothing.
     batch_laws();
     match Batch::decode(alloc, bytes) {
         Ok(value) => Ok(Found::Read(value)),

@@ -17,7 +17,6 @@ mod laws;
 mod loads;
 mod names;
 mod opening;
-mod part_key;
 mod set;
 mod sums;
 

@@ -1,6 +1,6 @@
 //! What is found of the loads of a set.
-ghost use Rattle.std.specs.Prelude.{◌≡◌, ◌∷◌, ◌++◌, ◌≤◌, [], ℕ, List as Items, map, length, true, false};
-ghost use Rattle.std.specs.Prelude.{MatchOption, OnOk};
+ghost use Rattle.std.specs.Prelude.{◌≡◌, ◌∷◌, ◌++◌, ◌≤◌, [], ℕ, List as Items, map, length};
+ghost use Rattle.std.specs.Prelude.{OnOk};
 ghost use Rattle.std.specs.List.{flat_map};
 ghost use Rattle.crc_fields.specs.CheckSums.{crc32_of};
 ghost use Rattle.field_grammar.specs.Answers.{answer};
@@ -10,7 +10,7 @@ ghost use Rattle.media_lists.specs.Loads.{load_entry_view};
 ghost use Rattle.media_check.specs.Findings.{load_findings, read_findings, header_findings};
 ghost use Rattle.media_check.specs.Findings.{file_findings, files_of, are_there as all_there};
 ghost use Rattle.media_check.specs.Findings.{has_other_crc as other_crc, load_crc_of, file_sums};
-ghost use Rattle.media_check.specs.Findings.{is_file as is_file_of, detailed};
+ghost use Rattle.media_check.specs.Findings.{detailed};
 ghost use Rattle.media_check.specs.Kept.{contents};
 ghost use Rattle.media_check.specs.Sets.{set_view, bytes_of};
 
@@ -23,7 +23,7 @@ use media_lists::LoadEntry;
 use printed_text::Printed;
 use std::alloc::Global;
 
-// The kinds of findings of loads (docs/FORMATS.md).
+/// The kinds of findings of loads (docs/FORMATS.md).
 const NOT_LISTED: u8 = 5;
 
 const HEADER_REFUSED: u8 = 7;
@@ -75,7 +75,7 @@ fn put_load(
     }
 }
 
-// What is found of a load whose header is in this member and has these bytes.
+/// What is found of a load whose header is in this member and has these bytes.
 fn put_read(
     alloc: Global,
     out: &mut List<Finding>,
@@ -90,6 +90,7 @@ fn put_read(
         ++ read_findings (set_view set.now) (load_entry_view load.now) member bytes.now
         (answer header bytes.now)) }
 {
+    // For the proof: does nothing.
     header_laws();
     match LoadHeader::decode(alloc, bytes) {
         Ok(header) => put_header(alloc, out, set, sums, load, member, bytes, &header),
@@ -98,7 +99,7 @@ fn put_read(
     }
 }
 
-// That a header has this fault.
+/// That a header has this fault.
 fn put_refused(
     alloc: Global,
     out: &mut List<Finding>,
@@ -147,7 +148,7 @@ fn put_header(
     put_where(alloc, out, is_changed, OTHER_LOAD_CRC, member, name)
 }
 
-// What is found of these files of a load.
+/// What is found of these files of a load.
 fn put_files(
     alloc: Global,
     out: &mut List<Finding>,
@@ -196,7 +197,7 @@ fn put_file(
     }
 }
 
-// Whether all files of the load are there, and their load CRC isn't that of the header.
+/// Whether all files of the load are there, and their load CRC isn't that of the header.
 #[tactic(auto, unfolding(crate::specs::Findings::has_other_crc))]
 fn has_other_crc(set: &MediaSet, bytes: &[u8], header: &LoadHeader) -> bool
     requires { 4 ≤ length bytes.now }

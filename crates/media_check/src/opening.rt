@@ -10,7 +10,7 @@ ghost use Rattle.batch_lists.specs.Batches.{batches_list, batches_list_view};
 ghost use Rattle.media_lists.specs.Files.{files_list, files_list_view, file_name};
 ghost use Rattle.media_lists.specs.ListFields.{AreNew};
 ghost use Rattle.media_lists.specs.Loads.{loads_list, loads_list_view};
-ghost use Rattle.media_check.specs.HostNames.{loads_name, files_name, batches_name, listed_name};
+ghost use Rattle.media_check.specs.HostNames.{loads_name, files_name, batches_name};
 ghost use Rattle.media_check.specs.HostNames.{host_media, list_names};
 ghost use Rattle.media_check.specs.Kept.{bytes_view, IsShortFile, contents};
 ghost use Rattle.media_check.specs.Openings.{Opens, OpensRest, ReadsNames, ReadsList, KeepsNext};
@@ -137,7 +137,7 @@ pub fn open_rest<H: Host>(
     })
 }
 
-// The file of this name; `None` where it is absent.
+/// The file of this name; `None` where it is absent.
 fn read_file<H: Host>(alloc: Global, host: &mut H, name: Bytes) -> Result<Option<Bytes>, OpenFault>
     ensures reads { ForSome (H.files host.old)
         (ReadsNames (name.items ∷ []) (λ files file. bytes_view file ≡ files name.items) result) }
@@ -154,7 +154,7 @@ fn read_file<H: Host>(alloc: Global, host: &mut H, name: Bytes) -> Result<Option
     }
 }
 
-// The lists of a member.
+/// The lists of a member.
 fn read_member<H: Host>(
     alloc: Global,
     host: &mut H,
@@ -188,7 +188,7 @@ pub(crate) fn count_further(loads: &Found<LoadsList, ListFault>) -> u16
     }
 }
 
-// The lists of this many members from 2 on.
+/// The lists of this many members from 2 on.
 fn read_further<H: Host>(
     alloc: Global,
     host: &mut H,
@@ -213,7 +213,7 @@ fn read_further<H: Host>(
     Ok(further)
 }
 
-// Reads what member 1's list of files lists, and keeps it; nothing where it wasn't read.
+/// Reads what member 1's list of files lists, and keeps it; nothing where it wasn't read.
 fn read_bodies<H: Host>(
     alloc: Global,
     host: &mut H,
@@ -234,7 +234,7 @@ fn read_bodies<H: Host>(
     }
 }
 
-// Reads each listed file, and keeps it.
+/// Reads each listed file, and keeps it.
 fn read_listed<H: Host>(
     alloc: Global,
     host: &mut H,
@@ -256,8 +256,8 @@ fn read_listed<H: Host>(
     Ok(kept)
 }
 
-// Reads a listed file and keeps it beside those before it, which have `total` bytes together. Gives
-// the bytes of all.
+/// Reads a listed file and keeps it beside those before it, which have `total` bytes together.
+/// Gives the bytes of all.
 fn keep_next<H: Host>(
     alloc: Global,
     host: &mut H,

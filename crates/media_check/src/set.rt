@@ -4,11 +4,11 @@ ghost use Rattle.std.specs.HashMap.{values};
 ghost use Rattle.load_base.specs.Host.{longest_file};
 ghost use Rattle.field_grammar.specs.Grammar.{IsBytes};
 ghost use Rattle.batch_lists.specs.Batches.{batches_list_view};
-ghost use Rattle.media_check.specs.Batches.{AreKept, HaveFirst};
+ghost use Rattle.media_check.specs.Batches.{AreKeptBatches, HaveFirst};
 ghost use Rattle.media_check.specs.Kept.{IsBytesFile, IsShortFile, entries_of, files_view};
 ghost use Rattle.media_check.specs.Kept.{found_view};
 
-use crate::batches::Batches;
+use crate::batches::KeptBatches;
 use crate::found::Found;
 use batch_lists::{Batch, BatchesFault, BatchesList};
 use indexmap::IndexMap;
@@ -41,10 +41,10 @@ pub struct MediaSet {
     pub(crate) further: List<MemberLists>,
     // In the order of the list.
     pub(crate) files: IndexMap<Name, KeptFile>,
-    pub(crate) batches: Batches,
+    pub(crate) batches: KeptBatches,
     ghost few: { length further.items ≤ 254 },
     ghost short: { All IsShortFile (values files) },
-    ghost kept: { AreKept (files_view files.entries)
+    ghost kept: { AreKeptBatches (files_view files.entries)
         (entries_of (found_view batches_list_view first.batches)) batches.kept.items },
     ghost known: { HaveFirst batches.first.entries
         (entries_of (found_view batches_list_view first.batches)) },
@@ -99,7 +99,8 @@ impl MediaSet {
     /// member 1's `BATCHES.LUM` with it. `None` exactly where no entry has it, and where that
     /// entry's file isn't listed, is absent or is refused. It takes no memory.
     pub fn batch(&self, part: &PartText) -> Option<&Batch>
-        ensures { option_map (λ b. batch_view b.now) result ≡ batch_of (set_view self.now) part.now }
+        ensures { option_map (λ b. batch_view b.now) result ≡ batch_of
+            (set_view self.now) part.now }
     {
         self.batches.find(part)
     }

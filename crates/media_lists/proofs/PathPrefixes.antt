@@ -4,7 +4,7 @@ use Rattle.std.specs.Prelude.{◌==◌}
 use Rattle.std.proofs.lemmas.Bool.{ne_eqb, eqb-true, eqb-false}
 use Rattle.media_lists.specs.Paths.{path_end, path_fault_of, name_goes_on, IsPath, IsPathPrefix, IsLongestPrefix}
 use Rattle.media_lists.proofs.PathEnds.{one_backslash, one_empty_name, one_name_byte, one_other_byte, none_more, within_name}
-use Rattle.media_lists.proofs.PathLaws.{is_either, is_path, has_no_fault, begins_so}
+use Rattle.media_lists.proofs.PathLemmas.{is_either, is_path, has_no_fault, begins_so}
 
 record Stop (offset names size : ℕ) (bytes : List ℕ) (end : ℕ) : Type 0 where
   count : ℕ

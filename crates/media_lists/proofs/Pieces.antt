@@ -6,12 +6,12 @@ use Rattle.load_base.specs.Text.{IsText}
 use Rattle.field_grammar.specs.Spelling.{IsSpelledBy}
 use Rattle.field_grammar.specs.Fields.{number_fields, padded_fields}
 use Rattle.header_sections.specs.SectionFields.{texts_fields}
-use Rattle.header_sections.specs.SectionLaws as texts
+use Rattle.header_sections.proofs.SectionLemmas as texts
 use Rattle.media_lists.specs.Lists.{refused, counted}
 use Rattle.media_lists.specs.Files.{file_body, file_body_fields, IsListedFile}
 use Rattle.media_lists.specs.Loads.{counted_texts, load_body, load_body_fields, IsListedLoad, LoadEntryView}
 use Rattle.media_lists.specs.declared.lists.ListedFile.{ListedFile}
-use Rattle.media_lists.specs.PieceLaws.{spelled-u16, spelled-member_of, spelled-counted_few, spelled-name, spelled-part}
+use Rattle.media_lists.proofs.PieceLemmas.{spelled-u16, spelled-member_of, spelled-counted_few, spelled-name, spelled-part}
 use Rattle.media_lists.proofs.Texts.{spelled-path}
 
 spelled-texts : IsSpelledBy counted_texts texts_fields (λ t. (length t ≤ 1024) × AllByRecursion IsText t)

@@ -1,12 +1,12 @@
 -- How many bytes the entries of both lists take.
 use Rattle.std.proofs.Common.{◌≡◌, ◌+◌, ◌%◌, ◌++◌, length, arith, length-append}
 use Rattle.field_grammar.specs.Spelling.{spelled_length}
-use Rattle.field_grammar.specs.SectionLaws.{size_more, size_number, size_padded}
+use Rattle.field_grammar.proofs.SectionLemmas.{size_more, size_number, size_padded}
 use Rattle.field_grammar.specs.Fields.{number_fields, padded_fields}
-use Rattle.field_grammar.specs.NumberLaws.{length_number_bytes}
-use Rattle.field_grammar.specs.TextLaws.{length_pad_bytes}
+use Rattle.field_grammar.proofs.NumberLemmas.{length_number_bytes}
+use Rattle.field_grammar.proofs.TextLemmas.{length_pad_bytes}
 use Rattle.header_sections.specs.SectionFields.{texts_fields, entry_size}
-use Rattle.header_sections.specs.SizeLaws.{even_texts}
+use Rattle.header_sections.proofs.SizeLemmas.{even_texts}
 use Rattle.media_lists.specs.Files.{file_body_fields}
 use Rattle.media_lists.specs.Loads.{load_body_fields, LoadEntryView}
 use Rattle.media_lists.specs.declared.lists.ListedFile.{ListedFile}

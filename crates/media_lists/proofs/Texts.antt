@@ -8,16 +8,16 @@ use Rattle.std.proofs.lemmas.List.Concat.{flat_map-cons}
 use Rattle.load_base.specs.Name.{IsName, is_name_byte}
 use Rattle.load_base.specs.Text.{IsText, is_printable}
 use Rattle.load_base.specs.Verdicts.{TellsFaults}
-use Rattle.load_base.specs.VerdictLaws.{text_faults}
+use Rattle.load_base.proofs.VerdictLemmas.{text_faults}
 use Rattle.field_grammar.specs.Spelling.{IsSpelledBy}
 use Rattle.field_grammar.specs.Fields.{padded_fields}
-use Rattle.field_grammar.specs.JudgedLaws.{spelled-right_padded}
+use Rattle.field_grammar.proofs.JudgedLemmas.{spelled-right_padded}
 use Rattle.media_lists.specs.Lists.{named, path}
 use Rattle.media_lists.specs.Paths.{closed, path_fault_of, IsPath}
 use Rattle.media_lists.specs.declared.fault.ListFault.TheVariants as faults
 use Rattle.media_lists.specs.declared.fault.WordFault.TheVariants as words
 use Rattle.media_lists.specs.declared.fault.PathFault.TheVariants as paths
-use Rattle.media_lists.proofs.PathLaws.{is_path, has_no_fault}
+use Rattle.media_lists.proofs.PathLemmas.{is_path, has_no_fault}
 
 good_more : (byte : ℕ) (rest : List ℕ) → is_printable byte ≡ true → AllGood is_printable rest → AllGood is_printable (byte ∷ rest)
 good_more byte rest one good zero lt = one

@@ -5,7 +5,7 @@ use Rattle.field_grammar.specs.Spelling.{SpellsWhole}
 use Rattle.media_lists.specs.ListFields.{list_fields}
 use Rattle.media_lists.specs.Files.{file_body, file_name, file_body_fields, files_list, IsListedFile, IsFilesList}
 use Rattle.media_lists.specs.Loads.{load_body, load_name, load_body_fields, loads_list, IsListedLoad, IsLoadsList}
-use Rattle.media_lists.specs.SpelledLaws.{HasEntries, spells-list, ends-media_list}
+use Rattle.media_lists.proofs.SpelledLemmas.{HasEntries, spells-list, ends-media_list}
 use Rattle.media_lists.proofs.Pieces.{spelled-file_body, spelled-load_body}
 use Rattle.media_lists.proofs.Sizes.{even_file, even_load}
 

@@ -6,11 +6,3 @@ pub mod ListFields
 pub mod Files
 pub mod Loads
 pub mod ListFaultText
-pub mod PieceLaws
-pub mod SizeLaws
-pub mod HeadLaws
-pub mod GroupLaws
-pub mod EntryLaws
-pub mod SpelledLaws
-pub mod WrittenLaws
-pub mod FitLaws

@@ -1,5 +1,5 @@
 //! The encoders of the two media lists.
-ghost use Rattle.std.specs.Prelude.{◌≡◌, ◌+◌, ◌<◌, ◌≤◌, ◌/◌, ◌^◌, IfOk};
+ghost use Rattle.std.specs.Prelude.{◌≡◌, ◌+◌, ◌<◌, ◌≤◌, ◌/◌, IfOk};
 ghost use Rattle.media_lists.specs.Files.{files_list_view, IsFilesList, FilesSpells};
 ghost use Rattle.media_lists.specs.Loads.{loads_list_view, IsLoadsList, LoadsSpells};
 ghost use Rattle.media_lists.specs.declared.reading.Pointers.{Pointers};

@@ -1,6 +1,6 @@
 //! Whether a list meets the limits of its format.
-ghost use Rattle.std.specs.Prelude.{◌≡◌, ◌↔◌, ◌<◌, ◌≤◌, ◌%◌, ◌^◌, [], length, map, false, IsTrue};
-ghost use Rattle.std.specs.List.{All, AllByRecursion};
+ghost use Rattle.std.specs.Prelude.{◌≡◌, ◌↔◌, ◌<◌, ◌≤◌, ◌%◌, [], length, map, false, IsTrue};
+ghost use Rattle.std.specs.List.{AllByRecursion};
 ghost use Rattle.field_grammar.specs.Grammar.{IsBytes};
 ghost use Rattle.media_lists.specs.Paths.{IsPath};
 ghost use Rattle.media_lists.specs.ListFields.{IsMember as is_such_member, AreNew, AreEntries};
@@ -113,7 +113,7 @@ pub(crate) fn files_fit(list: &FilesList) -> bool
 
 // ---- loads
 
-// The entry meets the limits, as the last or another of its list.
+/// The entry meets the limits, as the last or another of its list.
 fn is_load(load: &LoadEntry, members: u8, last: bool) -> bool
     ensures { IsTrue result ↔ (is_such_load members (load_entry_view load.now)
         × (last ≡ false → entry_size load_body_fields (load_entry_view load.now) ≤ 131070)) }

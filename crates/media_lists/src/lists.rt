@@ -1,7 +1,7 @@
 //! What the two lists of a media set hold.
 ghost use Rattle.std.specs.Prelude.{◌≡◌, ◌⊎◌, ◌↔◌, IsTrue, IfOk, IfErr};
 ghost use Rattle.field_grammar.specs.Grammar.{Fault};
-ghost use Rattle.field_grammar.specs.Answers.{Gives};
+ghost use Rattle.field_grammar.specs.Answers.{AnswersAs};
 ghost use Rattle.media_lists.specs.Files.{files_list, files_list_view, FilesListView, FilesSpells};
 ghost use Rattle.media_lists.specs.Files.{IsFilesList};
 ghost use Rattle.media_lists.specs.Loads.{loads_list, loads_list_view, LoadsListView, LoadsSpells};
@@ -59,13 +59,13 @@ impl FilesList {
         ensures found { IfOk result (λ l. FilesSpells (files_list_view l) bytes.now) }
         // What is spelled so is read, unless it is out of memory.
         ensures only { (v : FilesListView) → FilesSpells v bytes.now
-            → Gives Memory files_list_view result (Ok v) }
+            → AnswersAs Memory files_list_view result (Ok v) }
         // A refusal is the first fault,
         ensures refused { IfErr result (λ fault. (fault ≡ Memory) ⊎ Fault files_list bytes.now
             fault) }
         // and where there is a fault, it is refused so.
         ensures faulty { (fault : ListFault) → Fault files_list bytes.now fault
-            → Gives Memory files_list_view result (Err fault) }
+            → AnswersAs Memory files_list_view result (Err fault) }
     {
         files_of(alloc, bytes)
     }
@@ -123,13 +123,13 @@ impl LoadsList {
         ensures found { IfOk result (λ l. LoadsSpells (loads_list_view l) bytes.now) }
         // What is spelled so is read, unless it is out of memory.
         ensures only { (v : LoadsListView) → LoadsSpells v bytes.now
-            → Gives Memory loads_list_view result (Ok v) }
+            → AnswersAs Memory loads_list_view result (Ok v) }
         // A refusal is the first fault,
         ensures refused { IfErr result (λ fault. (fault ≡ Memory) ⊎ Fault loads_list bytes.now
             fault) }
         // and where there is a fault, it is refused so.
         ensures faulty { (fault : ListFault) → Fault loads_list bytes.now fault
-            → Gives Memory loads_list_view result (Err fault) }
+            → AnswersAs Memory loads_list_view result (Err fault) }
     {
         loads_of(alloc, bytes)
     }

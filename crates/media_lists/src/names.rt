@@ -1,7 +1,7 @@
 //! Whether an earlier entry has the name of an entry, without a look at all of them.
 ghost use Rattle.std.specs.Prelude.{◌≡◌, ◌++◌, ◌<◌, ◌≤◌, ◌∷◌, [], length, map, true, not, IsTrue};
 ghost use Rattle.std.specs.Prelude.{IfOk, IfErr};
-ghost use Rattle.std.specs.List.{list_any, AllWithin};
+ghost use Rattle.std.specs.List.{list_any};
 ghost use Rattle.std.specs.List.Sorted.{IsPartitionPoint};
 ghost use Rattle.load_base.specs.Bytes.{same_bytes};
 ghost use Rattle.media_lists.specs.Entries.{is_listed};
@@ -72,7 +72,7 @@ pub(crate) fn is_new_load(order: &mut Order, loads: &[LoadEntry], name: &[u8]) -
     is_new(order, loads, name)
 }
 
-// The index of the name in the order, or the one where it would be.
+/// The index of the name in the order, or the one where it would be.
 fn find<E: Named>(order: &[u16], entries: &[E], name: &[u8]) -> Result<usize, usize>
     requires { IsOrder (map E.name_of entries.now) order.now }
     ensures found { IfOk result (λ at. list_any (λ other. same_bytes other name.now)
@@ -87,7 +87,7 @@ fn find<E: Named>(order: &[u16], entries: &[E], name: &[u8]) -> Result<usize, us
     order.binary_search_by(|offset| compared(entries, *offset, name))
 }
 
-// The name of the entry at this index, compared with this one.
+/// The name of the entry at this index, compared with this one.
 fn compared<E: Named>(entries: &[E], offset: u16, name: &[u8]) -> Ordering
     ensures { result ≡ by_bytes (name_at (map E.name_of entries.now) offset) name.now }
 {

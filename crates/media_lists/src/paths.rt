@@ -1,6 +1,6 @@
 //! The paths of listed files.
-ghost use Rattle.std.specs.Prelude.{◌≡◌, ◌≤◌, IfOk};
-ghost use Rattle.field_grammar.specs.Answers.{Gives};
+ghost use Rattle.std.specs.Prelude.{◌≡◌, IfOk};
+ghost use Rattle.field_grammar.specs.Answers.{AnswersAs};
 ghost use Rattle.media_lists.specs.Lists.{path_verdict};
 ghost use Rattle.media_lists.specs.declared.fault.ListFault.TheVariants.{Memory};
 ghost use Rattle.load_base.specs.Name.{is_name_byte as is_good};
@@ -16,8 +16,8 @@ pub(crate) const MOST_NAMES: usize = 4;
 /// The most bytes of a path.
 pub(crate) const LONGEST_PATH: usize = 64;
 
-// The length of the longest prefix of the bytes that is a prefix of some path, where they are no
-// path.
+/// The length of the longest prefix of the bytes that is a prefix of some path, where they are no
+/// path.
 pub(crate) fn path_fault(bytes: &[u8]) -> Option<usize>
     ensures { result ≡ path_fault_of bytes.now }
 {
@@ -60,9 +60,9 @@ fn is_name_byte(byte: u8) -> bool
     matches!(byte, 0x21..=0x7E) && byte != b'/' && byte != b'\\'
 }
 
-// The path that these bytes are, or the fault of the path whose bytes are at this offset.
+/// The path that these bytes are, or the fault of the path whose bytes are at this offset.
 pub(crate) fn path_of(alloc: Global, bytes: &[u8], offset: u64) -> Result<Text, ListFault>
-    ensures { Gives Memory (λ t. t) result (path_verdict offset bytes.now) }
+    ensures { AnswersAs Memory (λ t. t) result (path_verdict offset bytes.now) }
 {
     if let Some(end) = path_fault(bytes) {
         return Err(ListFault::Word {
@@ -74,7 +74,7 @@ pub(crate) fn path_of(alloc: Global, bytes: &[u8], offset: u64) -> Result<Text, 
     Ok(path)
 }
 
-// A path is a text, so that it can only be out of memory.
+/// A path is a text, so that it can only be out of memory.
 fn path_text(alloc: Global, bytes: &[u8]) -> Result<Text, NoMemory>
     requires { IsPath bytes.now }
     ensures { IfOk result (λ text. text ≡ bytes.now) }
@@ -83,6 +83,7 @@ fn path_text(alloc: Global, bytes: &[u8]) -> Result<Text, NoMemory>
         Ok(text) => Ok(text),
         Err(fault) => match fault {
             TextFault::Memory => Err(NoMemory),
+            // The premise says that this is a text.
             _ => unreachable!(),
         },
     }

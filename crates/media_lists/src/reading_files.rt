@@ -1,8 +1,8 @@
 //! The decoder of a list of files, part by part of its format.
-ghost use Rattle.std.specs.Prelude.{◌≡◌, ◌≤◌, ◌<◌, ◌+◌, ◌++◌, ◌∷◌, ◌==◌, [], length, map, IfOk};
+ghost use Rattle.std.specs.Prelude.{◌≤◌, ◌<◌, ◌+◌, ◌++◌, ◌∷◌, ◌==◌, [], length, map, IfOk};
 ghost use Rattle.media_lists.specs.NameOrder.{IsOrder};
 ghost use Rattle.field_grammar.specs.Grammar.{listed};
-ghost use Rattle.field_grammar.specs.Answers.{answer, Decodes, Gives};
+ghost use Rattle.field_grammar.specs.Answers.{answer, Decodes, AnswersAs};
 ghost use Rattle.media_lists.specs.Entries.{numbered_entry, entry_after};
 ghost use Rattle.media_lists.specs.Files.{file_body, file_name, file_entries, files_list};
 ghost use Rattle.media_lists.specs.Files.{files_list_view};
@@ -22,7 +22,7 @@ use std::alloc::Global;
 /// The list that the bytes spell, or their first fault.
 #[tactic(auto, unfolding(crate::specs::Lists::media_list))]
 pub(crate) fn files_of(alloc: Global, bytes: &[u8]) -> Result<FilesList, ListFault>
-    ensures { Gives Memory files_list_view result (answer files_list bytes.now) }
+    ensures { AnswersAs Memory files_list_view result (answer files_list bytes.now) }
 {
     let mut reader = Reader::new(bytes);
     test_limit(&mut reader)?;
@@ -55,7 +55,7 @@ fn read_files(
     Ok(files)
 }
 
-#[tactic(auto, using(field_grammar::specs::LoopLaws::list_goes_on, field_grammar::specs::LoopLaws::list_ends, field_grammar::specs::LoopLaws::list_is_done))]
+#[tactic(auto, using(field_grammar::proofs::LoopLemmas::list_goes_on, field_grammar::proofs::LoopLemmas::list_ends, field_grammar::proofs::LoopLemmas::list_is_done))]
 fn read_so_many_files(
     alloc: Global,
     reader: &mut Reader,
@@ -100,7 +100,7 @@ fn read_new_file(
     }
 }
 
-#[tactic(auto, using(field_grammar::specs::MoveLaws::offset_goes_on), unfolding(crate::specs::Entries::numbered_entry))]
+#[tactic(auto, using(field_grammar::proofs::MoveLemmas::offset_goes_on), unfolding(crate::specs::Entries::numbered_entry))]
 fn read_file_entry(
     alloc: Global,
     reader: &mut Reader,

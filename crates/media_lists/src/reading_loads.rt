@@ -1,8 +1,8 @@
 //! The decoder of a list of loads, part by part of its format.
-ghost use Rattle.std.specs.Prelude.{◌≡◌, ◌≤◌, ◌<◌, ◌+◌, ◌++◌, ◌∷◌, ◌==◌, [], length, map, IfOk};
+ghost use Rattle.std.specs.Prelude.{◌≤◌, ◌<◌, ◌+◌, ◌++◌, ◌∷◌, ◌==◌, [], length, map, IfOk};
 ghost use Rattle.media_lists.specs.NameOrder.{IsOrder};
 ghost use Rattle.field_grammar.specs.Grammar.{listed};
-ghost use Rattle.field_grammar.specs.Answers.{answer, Decodes, Gives};
+ghost use Rattle.field_grammar.specs.Answers.{answer, Decodes, AnswersAs};
 ghost use Rattle.media_lists.specs.Entries.{numbered_entry, entry_after};
 ghost use Rattle.media_lists.specs.Loads.{counted_texts, load_body, load_name, load_entries};
 ghost use Rattle.media_lists.specs.Loads.{loads_list, load_entry_view, loads_list_view};
@@ -20,7 +20,7 @@ use std::alloc::Global;
 /// The list that the bytes spell, or their first fault.
 #[tactic(auto, unfolding(crate::specs::Lists::media_list))]
 pub(crate) fn loads_of(alloc: Global, bytes: &[u8]) -> Result<LoadsList, ListFault>
-    ensures { Gives Memory loads_list_view result (answer loads_list bytes.now) }
+    ensures { AnswersAs Memory loads_list_view result (answer loads_list bytes.now) }
 {
     let mut reader = Reader::new(bytes);
     test_limit(&mut reader)?;
@@ -53,7 +53,7 @@ fn read_loads(
     Ok(loads)
 }
 
-#[tactic(auto, using(field_grammar::specs::LoopLaws::list_goes_on_seen, field_grammar::specs::LoopLaws::list_ends, field_grammar::specs::LoopLaws::list_is_done))]
+#[tactic(auto, using(field_grammar::proofs::LoopLemmas::list_goes_on_seen, field_grammar::proofs::LoopLemmas::list_ends, field_grammar::proofs::LoopLemmas::list_is_done))]
 fn read_so_many_loads(
     alloc: Global,
     reader: &mut Reader,
@@ -101,7 +101,7 @@ fn read_new_load(
     }
 }
 
-#[tactic(auto, using(field_grammar::specs::MoveLaws::offset_goes_on), unfolding(crate::specs::Entries::numbered_entry))]
+#[tactic(auto, using(field_grammar::proofs::MoveLemmas::offset_goes_on), unfolding(crate::specs::Entries::numbered_entry))]
 fn read_load_entry(
     alloc: Global,
     reader: &mut Reader,

@@ -43,7 +43,7 @@ fn put_pointers(out: &mut Writer, offsets: Pointers) -> Result<(), NoMemory>
 }
 
 /// The part number of the set, and which member of how many the list belongs to.
-#[tactic(auto, using(part_number::specs::VerdictLaws::part_size), unfolding(crate::specs::ListFields::identity_fields))]
+#[tactic(auto, using(part_number::proofs::VerdictLemmas::part_size), unfolding(crate::specs::ListFields::identity_fields))]
 pub fn put_identity(
     out: &mut Writer,
     set: &PartNumber,
@@ -95,7 +95,7 @@ impl Entry for LoadEntry {
         load_body_size(self)
     }
 
-    #[tactic(auto, using(part_number::specs::VerdictLaws::part_size), unfolding(crate::specs::Loads::load_body_fields))]
+    #[tactic(auto, using(part_number::proofs::VerdictLemmas::part_size), unfolding(crate::specs::Loads::load_body_fields))]
     fn put_body(&self, out: &mut Writer) -> Result<(), NoMemory> {
         out.put_padded(self.part.as_slice())?;
         out.put_padded(self.header_name.as_slice())?;

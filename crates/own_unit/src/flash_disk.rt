@@ -1,5 +1,6 @@
 //! A disk over a driver of one's own. Nothing is told of what the flash holds.
-ghost use Rattle.std.specs.Prelude.{◌≡◌, ◌+◌, ◌≤◌, ◌<◌, true, false, not, is_err, IsErrOf, OnOk, OnErr};
+ghost use Rattle.std.specs.Prelude.{◌≡◌, ◌+◌, ◌≤◌, ◌<◌, true, false, not, is_err, IsErrOf, OnOk};
+ghost use Rattle.std.specs.Prelude.{OnErr};
 ghost use Rattle.std.proofs.Common.{inl};
 ghost use Rattle.load_base.specs.Counts.{Rose};
 ghost use Rattle.disk_model.specs.State.{untold_reads};
@@ -90,7 +91,7 @@ impl<F: Flash> Disk for FlashDisk<F> {
     }
 }
 
-// Advances the clock. At the greatest `u64` it can't, and the call fails.
+/// Advances the clock. At the greatest `u64` it can't, and the call fails.
 fn advance(clock: &mut u64) -> bool
     ensures later { clock.old ≤ clock.new }
     ensures advances { result ≡ true → clock.old < clock.new }
@@ -102,7 +103,7 @@ fn advance(clock: &mut u64) -> bool
     true
 }
 
-// What wasn't done is a fault of the disk, and stops it.
+/// What wasn't done is a fault of the disk, and stops it.
 fn answer(done: bool, faults: &mut FaultCount, stopped: &mut bool) -> Result<(), DiskFault>
     ensures answered { is_err result ≡ not done }
     ensures stops { stopped.new ≡ is_err result }

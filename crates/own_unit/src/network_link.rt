@@ -1,7 +1,7 @@
 //! A link over a network of one's own.
 ghost use Rattle.std.specs.Prelude.{◌≡◌, None, [], IfOk, OnOk, OnErr};
 ghost use Rattle.exchange_trace.specs.Happenings.{datagram_view, happening_view};
-ghost use Rattle.link_net.specs.Links.{Gives, HasLinkCause, scene_of, with_posted};
+ghost use Rattle.link_net.specs.Links.{LinkGives, HasLinkCause, scene_of, with_posted};
 
 use exchange_trace::{Datagram, Happening};
 use http_server::Log;

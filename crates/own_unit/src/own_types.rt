@@ -7,8 +7,8 @@ use load_header::LoadHeader;
 /// The least type id that is a maker's own. All makers share those from 1 up to it.
 pub const OWN_TYPES: u16 = 0x8000;
 
-/// Accepts each type that all makers share, and of the maker's own the one of this number; but no load
-/// beside a kept one of its part number.
+/// Accepts each type that all makers share, and of the maker's own the one of this number; but no
+/// load beside a kept one of its part number.
 #[derive(Clone, Copy)]
 pub struct OwnTypes {
     pub own: u16,
@@ -17,12 +17,13 @@ pub struct OwnTypes {
 impl Rule for OwnTypes {
     ghost use Rattle.std.specs.Prelude.{⊤};
     ghost use Rattle.load_header.specs.Header.{header_view};
-    ghost use Rattle.accept_rules.specs.InterlockLaws.{a_function_is_followed};
+    ghost use Rattle.accept_rules.specs.Laws.{a_function_is_followed};
     ghost use Rattle.own_unit.specs.OwnTypes.{own_types};
 
     ghost may_ask = { λ _ _ _. ⊤ };
 
-    ghost may_say = { λ rule header kept answer. answer ≡ own_types rule.own (header_view header) kept };
+    ghost may_say = { λ rule header kept answer. answer ≡ own_types rule.own
+        (header_view header) kept };
 
     ghost accepts = { λ rule. own_types rule.own };
 

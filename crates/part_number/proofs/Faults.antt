@@ -3,10 +3,10 @@ use Rattle.std.proofs.Common.{◌≡◌, ℕ, List, length, Some, None, refl}
 use Rattle.part_number.specs.declared.PartFault.{PartFault}
 use Rattle.part_number.specs.declared.PartFault.TheVariants.{Length, Hyphen, Character, Check}
 use Rattle.part_number.specs.Verdicts.{part_fault_of}
-use Rattle.part_number.specs.VerdictLaws.{part_faults}
+use Rattle.part_number.proofs.VerdictLemmas.{part_faults}
 use Rattle.part_number.specs.PartNumber.{IsPartNumber, IsPartFault, IsFirstBadOffset, part_number_text}
-use Rattle.part_number.specs.Laws.Read.{part_from_text}
-use Rattle.part_number.specs.Laws.Texts.{part_of_itself, hyphen_is_good, length-part_number_text}
+use Rattle.part_number.proofs.Reading.{part_from_text}
+use Rattle.part_number.proofs.Texts.{part_of_itself, hyphen_is_good, length-part_number_text}
 
 -- a part number has no fault
 pub no_fault : (text maker product : List ℕ) (fault : PartFault) → IsPartNumber text maker product → ¬ IsPartFault text fault

@@ -3,7 +3,7 @@ use Rattle.std.proofs.Common.{◌≡◌, ◌≢◌, List, ℕ, length, Ok, Err, 
 use Rattle.load_base.specs.Verdicts.{judged}
 use Rattle.part_number.specs.PartNumber.{IsPartNumberText, IsPartFault}
 use Rattle.part_number.specs.Verdicts.{part_fault_of}
-use Rattle.part_number.specs.VerdictLaws.{part_faults}
+use Rattle.part_number.proofs.VerdictLemmas.{part_faults}
 use Rattle.part_number.specs.declared.PartFault.{PartFault}
 use Rattle.part_number.specs.declared.PartFault.TheVariants.{Length}
 

@@ -1,5 +1,3 @@
 pub mod FaultText
-pub mod Laws
 pub mod PartNumber
-pub mod VerdictLaws
 pub mod Verdicts

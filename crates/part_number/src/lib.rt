@@ -2,8 +2,9 @@
 #![tactic(auto)]
 
 ghost use Rattle.std.specs.Prelude.{◌≡◌, ℕ, ◌<◌, ◌++◌, List, true, false, codes, length, fold};
-ghost use Rattle.std.specs.Prelude.{bit_xor, IsOk, IfOk, IfErr, IfSome, IfNone};
+ghost use Rattle.std.specs.Prelude.{bit_xor, ◌==◌, IsOk, IfOk, IfErr, IfSome, IfNone};
 ghost use Rattle.std.specs.Bool.{Decides};
+ghost use Rattle.std.specs.List.{list_all};
 ghost use Rattle.load_base.specs.Bytes.{AllGood};
 ghost use Rattle.load_base.specs.PartText.{IsPartText};
 ghost use Rattle.load_base.specs.Verdicts.{judged, TellsFaults};
@@ -18,6 +19,7 @@ ghost use Rattle.part_number.specs.Verdicts.{part_fault_of};
 mod printing;
 
 use load_base::PartText;
+use std::hash::{Hash, Hasher};
 use std::marker::Model;
 
 /// Why bytes are no [`PartNumber`].
@@ -78,7 +80,7 @@ impl PartNumber {
 
     /// The part number of a maker and a product. The only refusal is P3, with the offset that the
     /// first wrong character has in the finished text.
-    #[tactic(auto, using(crate::proofs::Faults::fault_of_text, crate::specs::Laws::Read::made_from_text))]
+    #[tactic(auto, using(crate::proofs::Faults::fault_of_text, crate::proofs::Reading::made_from_text))]
     pub fn make(maker: &[u8; 3], product: &[u8; 8]) -> Result<PartNumber, PartFault>
         ensures made { IfOk result (λ part. IsPartNumber part maker.now product.now) }
         ensures only { AllGood is_part_character maker.now → AllGood is_part_character product.now
@@ -91,12 +93,13 @@ impl PartNumber {
     }
 
     /// The same text without the promise of its check digits.
-    #[tactic(auto, using(crate::specs::Laws::Texts::part_text_of_part))]
+    #[tactic(auto, using(crate::proofs::Texts::part_text_of_part))]
     pub fn text(&self) -> PartText
         ensures { result ≡ self.now }
     {
         match PartText::read(&self.text) {
             Ok(text) => text,
+            // A part number has fifteen graphic characters.
             Err(_) => unreachable!(),
         }
     }
@@ -130,9 +133,24 @@ impl Eq for PartNumber {
     ghost laws = { nat_list_eq_equiv };
 }
 
+impl Hash for PartNumber {
+    ghost use Rattle.std.specs.Hash as fed;
+    ghost use Rattle.std.specs.Cmp.Lexicographic.{bytes_decides};
+    ghost use Rattle.std.proofs.Common.{ap};
+
+    ghost hash_input = { λ part. fed.slice fed.u8 part };
+
+    ghost respects_eq = { λ one other same. ap (fed.slice fed.u8)
+        ((bytes_decides one other).0 same) };
+
+    fn hash<H: Hasher>(&self, state: &mut H) {
+        self.as_slice().hash(state);
+    }
+}
+
 /// Part numbers are equal where their texts are.
 // For the proof: does nothing.
-#[tactic(auto, using(load_base::specs::EqualityLaws::equal_bytes))]
+#[tactic(auto, using(load_base::proofs::EqualityLemmas::equal_bytes))]
 pub fn part_number_equality_law()
     ensures { (one other : List ℕ)
         → Decides (⟦<PartNumber as PartialEq>⟧.eq one other) (one ≡ other) }
@@ -167,13 +185,13 @@ pub fn part_number_laws()
     ensures known { part_number_text (codes "XYZ") (codes "00000001") ≡ codes "XYZ5A-0000-0001" }
 {}
 
-// The finished text, whether or not its characters are good.
+/// The finished text, whether or not its characters are good.
 fn text_of(maker: &[u8; 3], product: &[u8; 8]) -> [u8; 15]
     ensures { result ≡ part_number_text maker.now product.now }
 {
     let [m0, m1, m2] = *maker;
     let [p0, p1, p2, p3, p4, p5, p6, p7] = *product;
-    let check = exclusive_or(maker, &product[..4], &product[4..]);
+    let check = exclusive_or(&[m0, m1, m2, p0, p1, p2, p3, p4, p5, p6, p7]);
     let high = digit_of_value(check / 16);
     let low = digit_of_value(check % 16);
     [
@@ -181,8 +199,8 @@ fn text_of(maker: &[u8; 3], product: &[u8; 8]) -> [u8; 15]
     ]
 }
 
-// The first thing that is wrong with a text of the right length.
-#[tactic(auto, using(crate::specs::Laws::Read::wrong_check))]
+/// The first thing that is wrong with a text of the right length.
+#[tactic(auto, using(crate::proofs::Reading::wrong_check))]
 fn first_fault(text: &[u8; 15]) -> Option<PartFault>
     ensures none { IfNone result (IsPartNumberText text.now) }
     ensures first { IfSome result (IsPartFault text.now) }
@@ -199,15 +217,29 @@ fn first_fault(text: &[u8; 15]) -> Option<PartFault>
     }
 }
 
-// The offset of the first byte that isn't good there.
-fn first_bad(text: &[u8]) -> Option<usize>
-    requires { length text.now ≡ 15 }
+/// The offset of the first byte that isn't good there. Most texts have none, which
+/// `has_good_characters` tells much faster than the search does.
+fn first_bad(text: &[u8; 15]) -> Option<usize>
     ensures none { IfNone result (HasGoodCharacters text.now) }
     ensures first { IfSome result (λ offset. IsFirstBadOffset text.now offset) }
 {
+    if has_good_characters(text) {
+        return None;
+    }
     text.iter()
         .enumerate()
         .position(|(offset, byte)| !may_stand_at(offset, *byte))
+}
+
+#[tactic(auto, using(crate::proofs::Characters::good_by_parts))]
+fn has_good_characters(text: &[u8; 15]) -> bool
+    ensures { result ≡ true → HasGoodCharacters text.now }
+{
+    is_check_digit(text[3])
+        && is_check_digit(text[4])
+        && is_hyphen(text[5])
+        && is_hyphen(text[10])
+        && are_characters(&characters_of(text))
 }
 
 #[tactic(auto, unfolding(crate::specs::PartNumber::is_good_at))]
@@ -215,10 +247,34 @@ fn may_stand_at(offset: usize, byte: u8) -> bool
     ensures { result ≡ is_good_at offset byte }
 {
     match offset {
-        5 | 10 => byte == b'-',
-        3 | 4 => matches!(byte, b'0'..=b'9' | b'A'..=b'F'),
-        _ => matches!(byte, b'A'..=b'Z' | b'0'..=b'9'),
+        5 | 10 => is_hyphen(byte),
+        3 | 4 => is_check_digit(byte),
+        _ => is_character(byte),
     }
+}
+
+fn is_hyphen(byte: u8) -> bool
+    ensures { result ≡ (byte == 45) }
+{
+    byte == b'-'
+}
+
+fn is_check_digit(byte: u8) -> bool
+    ensures { result ≡ is_hexadecimal_digit byte }
+{
+    matches!(byte, b'0'..=b'9' | b'A'..=b'F')
+}
+
+fn are_characters(bytes: &[u8; 11]) -> bool
+    ensures { result ≡ list_all is_part_character bytes.now }
+{
+    bytes.iter().all(|byte| is_character(*byte))
+}
+
+fn is_character(byte: u8) -> bool
+    ensures { result ≡ is_part_character byte }
+{
+    matches!(byte, b'A'..=b'Z' | b'0'..=b'9')
 }
 
 fn misplaced(offset: usize) -> PartFault
@@ -231,8 +287,8 @@ fn misplaced(offset: usize) -> PartFault
     }
 }
 
-// The value of the check digits of a text.
-#[tactic(auto, using(crate::specs::Laws::Read::first_digit_is_good, crate::specs::Laws::Read::second_digit_is_good, crate::specs::Laws::Read::values_of_check_digits))]
+/// The value of the check digits of a text.
+#[tactic(auto, using(crate::proofs::Reading::first_digit_is_good, crate::proofs::Reading::second_digit_is_good, crate::proofs::Reading::values_of_check_digits))]
 fn written_check(text: &[u8; 15]) -> u8
     requires { HasGoodCharacters text.now }
     ensures { check_digits_of text.now ≡ hexadecimal result }
@@ -240,23 +296,27 @@ fn written_check(text: &[u8; 15]) -> u8
     16 * value_of_digit(text[3]) + value_of_digit(text[4])
 }
 
-// What they have to be.
-#[tactic(auto, using(crate::specs::Laws::Read::sum_of_pieces))]
+/// What they have to be.
+#[tactic(auto, unfolding(crate::specs::PartNumber::check_of))]
 fn computed_check(text: &[u8; 15]) -> u8
     ensures { result ≡ check_of (maker_of text.now) (product_of text.now) }
 {
-    exclusive_or(&text[..3], &text[6..10], &text[11..])
+    exclusive_or(&characters_of(text))
 }
 
-// The exclusive or of the characters of a maker and of both halves of a product.
-fn exclusive_or(maker: &[u8], prefix: &[u8], back: &[u8]) -> u8
-    ensures { result ≡ fold bit_xor 0 (maker.now ++ prefix.now ++ back.now) }
+/// The characters of the maker and of the product of a text.
+#[tactic(auto, using(crate::proofs::Characters::characters_in_text))]
+fn characters_of(text: &[u8; 15]) -> [u8; 11]
+    ensures { result ≡ maker_of text.now ++ product_of text.now }
 {
-    maker
-        .iter()
-        .chain(prefix)
-        .chain(back)
-        .fold(0, |sum, character| sum ^ character)
+    let [m0, m1, m2, _, _, _, p0, p1, p2, p3, _, p4, p5, p6, p7] = *text;
+    [m0, m1, m2, p0, p1, p2, p3, p4, p5, p6, p7]
+}
+
+fn exclusive_or(characters: &[u8; 11]) -> u8
+    ensures { result ≡ fold bit_xor 0 characters.now }
+{
+    characters.iter().fold(0, |sum, character| sum ^ character)
 }
 
 #[tactic(auto, unfolding(crate::specs::PartNumber::hexadecimal_digit))]
@@ -271,7 +331,7 @@ fn digit_of_value(value: u8) -> u8
     }
 }
 
-// The number below 16 whose digit this is.
+/// The number below 16 whose digit this is.
 #[tactic(auto, unfolding(crate::specs::PartNumber::hexadecimal_digit))]
 fn value_of_digit(digit: u8) -> u8
     requires { is_hexadecimal_digit digit ≡ true }

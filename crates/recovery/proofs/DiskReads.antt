@@ -3,7 +3,7 @@ use Rattle.std.proofs.Common.{inl, inr, ◌≡◌, ℕ, ◌≤◌, false, Result
 use Rattle.std.specs.Prelude.{IfErr, IsErrOf}
 use Rattle.load_base.specs.Counts.{Rose}
 use Rattle.disk_model.specs.State.{DiskState, OnlyReads}
-use Rattle.disk_model.specs.MomentLaws.{reads_joined}
+use Rattle.disk_model.proofs.MomentLemmas.{reads_joined}
 use Rattle.disk_layout.specs.DiskReads.{RunsOn, RunsOnAfter, IsOfDisk, ReadsDisk}
 use Rattle.disk_layout.specs.declared.fault.RecoverFault.{RecoverFault}
 use Rattle.disk_layout.specs.declared.fault.RecoverFault.TheVariants.{DiskFailed}

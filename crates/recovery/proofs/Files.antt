@@ -11,7 +11,7 @@ use Rattle.disk_model.specs.Image.{Image, range}
 use Rattle.disk_layout.specs.Manifest.{entries_length}
 use Rattle.disk_layout.specs.Contents.{file_entry_of, bytes_of}
 use Rattle.disk_layout.specs.declared.manifest.ManifestFile.{ManifestFile}
-use Rattle.disk_layout.specs.RangeLaws.{ranges_joined}
+use Rattle.disk_layout.proofs.RangeLemmas.{ranges_joined}
 
 pub size_more : (files : List ManifestFile) (i : ℕ) (f : ManifestFile) → i < length files → f ≡ get_or files i f → entries_length (take (i + 1) files) ≡ entries_length (take i files) + f.length
 size_more files i f within is = sum_by_more (λ (g : ManifestFile). g.length) files i f within ∙ ap (λ (g : ManifestFile). entries_length (take i files) + g.length) (sym is)

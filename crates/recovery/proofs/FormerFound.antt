@@ -8,8 +8,8 @@ use Rattle.disk_layout.specs.Offsets.{bank_at}
 use Rattle.disk_layout.specs.DiskReads.{IsOfDisk}
 use Rattle.disk_layout.specs.Holds.{HasOutline, HoldsBy, Outline, Refuses, StandingView, outline_of}
 use Rattle.disk_layout.specs.Manifest.{LoadEntry, manifest, total_length}
-use Rattle.disk_layout.specs.ManifestLaws.{fault_has_offset}
-use Rattle.disk_layout.specs.SlotLaws.{offset_is_slot}
+use Rattle.disk_layout.proofs.ManifestLemmas.{fault_has_offset}
+use Rattle.disk_layout.proofs.SlotLemmas.{offset_is_slot}
 use Rattle.disk_layout.specs.Slots.{IsOpen, IsSlot, IsSlotAt, other_bank, other_slot, slot_offset}
 use Rattle.disk_layout.specs.declared.active.Active.{Active}
 use Rattle.disk_layout.specs.declared.active.Slot.{Slot}

@@ -1,7 +1,7 @@
 -- The former configuration stands in the other bank of a store.
 use Rattle.std.proofs.Common.{◌≡◌, inl, inr, ℕ, ◌+◌, List, Result, Ok, sym, ◌∙◌, ap, ap₂, subst, arith}
 use Rattle.field_grammar.specs.Answers.{answer}
-use Rattle.field_grammar.specs.ExactLaws.{answer-spelled}
+use Rattle.field_grammar.proofs.ExactLemmas.{answer-spelled}
 use Rattle.field_grammar.specs.Grammar.{Spelled}
 use Rattle.disk_model.specs.Image.{Image, range}
 use Rattle.disk_layout.specs.Offsets.{bank_at}

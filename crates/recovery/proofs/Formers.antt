@@ -3,7 +3,7 @@ use Rattle.std.proofs.Common.{◌≡◌, ◌⊎◌, inl, inr, ℕ, ◌+◌, ◌<
 use Rattle.std.proofs.lemmas.Bool.{cases_lt, cases_eq}
 use Rattle.disk_model.specs.Image.{Image, IsOfBytes}
 use Rattle.disk_layout.specs.Slots.{IsOpen, other_slot, other_bank, sequence_of, bank_of}
-use Rattle.disk_layout.specs.SlotLaws.{one_slot}
+use Rattle.disk_layout.proofs.SlotLemmas.{one_slot}
 use Rattle.disk_layout.specs.Holds.{StandingView, HoldsBy, HoldsConfig, HasDiskFault}
 use Rattle.disk_layout.specs.declared.fault.RecoverFault.{RecoverFault}
 use Rattle.recovery.specs.Formers.{HasOlderSlot, HoldsFormer, LacksFormer, HasNoFormer, other_fault_of, without_slot}

@@ -9,13 +9,13 @@ use Rattle.load_base.specs.Config.{FileView, LoadView}
 use Rattle.disk_model.specs.Image.{Image, range}
 use Rattle.disk_layout.specs.Contents.{HeaderIsFirst, entries_of, entry_of, first_name, file_entry_of}
 use Rattle.disk_layout.specs.Manifest.{LoadEntry, entry_view, entries_length, total_length}
-use Rattle.disk_layout.specs.RangeLaws.{ranges_joined}
+use Rattle.disk_layout.proofs.RangeLemmas.{ranges_joined}
 use Rattle.disk_layout.specs.declared.manifest.ManifestFile.{ManifestFile}
 use Rattle.disk_layout.specs.declared.manifest.ManifestLoad.{ManifestLoad}
 use Rattle.disk_layout.specs.Holds.{StandingView}
 use Rattle.listing.specs.Listing.{bank_line, file_line, file_line_of, listing, load_line, load_line_of, load_lines, loads_line, target_line}
 use Rattle.recovery.specs.Listings.{ListsFile, ListsFiles, ListsLoad, ListsLoads}
-use Rattle.recovery.specs.Parts.{HasFiles, IsSumAt}
+use Rattle.recovery.specs.Parts.{HasAFile, IsSumAt}
 use Rattle.recovery.proofs.Files.{bytes_with, size_more}
 use Rattle.recovery.proofs.Loads.{contents_with, total_with}
 
@@ -70,7 +70,7 @@ made : List ℕ → Option ℕ → List ManifestFile → LoadEntry
 made part type_id files = record { part = part; type_id = type_id; files = files }
 
 -- a load by its line and those of its files
-pub one_load : (reads : Option Image) (at : ℕ) (e : ManifestLoad) (f : ManifestFile) (before middle after : List ℕ) → f ≡ get_or e.files.items 0 f → HasFiles (entry_view e)
+pub one_load : (reads : Option Image) (at : ℕ) (e : ManifestLoad) (f : ManifestFile) (before middle after : List ℕ) → f ≡ get_or e.files.items 0 f → HasAFile (entry_view e)
     → middle ≡ before ++ load_line_of e.part f.name (length e.files.items) → ListsFiles reads at e.files.items middle after → ListsLoad reads at (entry_view e) before after
 unfolding load_lines load_line made
 one_load reads at e f before middle after is some line files = record {

@@ -13,8 +13,8 @@ use Rattle.disk_layout.specs.Manifest.{LoadEntry, entry_view, entries_length, to
 use Rattle.disk_layout.specs.Contents.{entry_of, entries_of, bytes_of, contents_of_loads, HeaderIsFirst, HeadersAreFirst}
 use Rattle.disk_layout.specs.declared.manifest.ManifestFile.{ManifestFile}
 use Rattle.disk_layout.specs.declared.manifest.ManifestLoad.{ManifestLoad}
-use Rattle.recovery.specs.Parts.{HasFiles}
-use Rattle.disk_layout.specs.RangeLaws.{ranges_joined}
+use Rattle.recovery.specs.Parts.{HasAFile}
+use Rattle.disk_layout.proofs.RangeLemmas.{ranges_joined}
 
 -- ---- lengths
 
@@ -79,11 +79,11 @@ no_headers loads none = subst (λ (l : List Load). HeadersAreFirst (map load_vie
 
 -- what holds of all loads holds of each
 pub has_files : (entries : List ManifestLoad) (i : ℕ) (e : ManifestLoad) → i < length entries → e ≡ get_or entries i e
-    → All (λ (x : LoadEntry). HasFiles x) (map entry_view entries) → HasFiles (entry_view e)
+    → All (λ (x : LoadEntry). HasAFile x) (map entry_view entries) → HasAFile (entry_view e)
 has_files entries i e within is all =
     let here : i < length (map entry_view entries) = omega (arith, within, length-map entries entry_view) in
-    let each : HasFiles (get_or (map entry_view entries) i (entry_view e)) = All-get_or (λ (x : LoadEntry). HasFiles x) (map entry_view entries) i (entry_view e) here all in
-    subst (λ (x : LoadEntry). HasFiles x) (get_or-map entry_view entries i e (entry_view e) within ∙ ap entry_view (sym is)) each
+    let each : HasAFile (get_or (map entry_view entries) i (entry_view e)) = All-get_or (λ (x : LoadEntry). HasAFile x) (map entry_view entries) i (entry_view e) here all in
+    subst (λ (x : LoadEntry). HasAFile x) (get_or-map entry_view entries i e (entry_view e) within ∙ ap entry_view (sym is)) each
 
 pub total_with : (ls : List LoadEntry) (l : LoadEntry) → total_length (ls ++ l ∷ []) ≡ total_length ls + entries_length l.files
 total_with ls l = total_joined ls (l ∷ []) ∙ ap (λ (n : ℕ). total_length ls + n) (total_of_one l)

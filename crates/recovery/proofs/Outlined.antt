@@ -6,11 +6,11 @@ use Rattle.std.proofs.lemmas.List.{append-nil, append_assoc}
 use Rattle.std.proofs.lemmas.List.Elements.{All-head, All-tail, All-weaker}
 use Rattle.field_grammar.specs.Grammar.{IsBytes, Spelled}
 use Rattle.field_grammar.specs.Answers.{answer}
-use Rattle.field_grammar.specs.StepLaws.{then_ok}
+use Rattle.field_grammar.proofs.StepLemmas.{then_ok}
 use Rattle.disk_model.specs.Image.{Image}
 use Rattle.disk_layout.specs.Manifest.{FitsALayout, LoadEntry, LoadFits, RefusesManifestBytes, left_in, manifest, entries_length, total_length, with_these}
-use Rattle.disk_layout.specs.ManifestLaws.{manifest_found, manifest_faulty, fault_has_offset}
-use Rattle.disk_layout.specs.ManifestSpelling.{manifest_spelling}
+use Rattle.disk_layout.proofs.ManifestLemmas.{manifest_found, manifest_faulty, fault_has_offset}
+use Rattle.disk_layout.proofs.ManifestSpelling.{manifest_spelling}
 use Rattle.disk_layout.specs.declared.manifest.ManifestFault.{ManifestFault}
 use Rattle.disk_layout.specs.declared.manifest.ManifestFault.TheVariants.{Wrong, Memory}
 use Rattle.disk_layout.specs.declared.manifest.ManifestReader.{ManifestReader}
@@ -18,7 +18,7 @@ use Rattle.disk_layout.specs.declared.fault.RecoverFault.{RecoverFault}
 use Rattle.disk_layout.specs.declared.fault.RecoverFault.TheVariants.{BadManifest}
 use Rattle.recovery.specs.Listings.{ListsAll, ListsLoad, ListsLoads}
 use Rattle.recovery.specs.Outlines.{LeftAfterLoads, IsLeftAfter, TellsLoads}
-use Rattle.recovery.specs.Parts.{HasFiles, HasOtherLengths}
+use Rattle.recovery.specs.Parts.{HasAFile, HasOtherLengths}
 use Rattle.recovery.proofs.Lines.{no_loads, one_more_load}
 use Rattle.recovery.proofs.Loads.{total_joined, total_of_one, total_with}
 
@@ -62,15 +62,15 @@ in_the_middle : {X : Type 0} (P : X → Type 0) (xs : List X) (x : X) (ys : List
 in_the_middle P [] x ys all = All-head P x ys all
 in_the_middle P (y ∷ xs) x ys all = in_the_middle P xs x ys (All-tail P y (xs ++ x ∷ ys) all)
 
-pub has_files_of : (seen : List LoadEntry) (e : LoadEntry) (rest all : List LoadEntry) → seen ++ e ∷ rest ≡ all → All (λ (x : LoadEntry). HasFiles x) all → HasFiles e
-has_files_of seen e rest all are has = in_the_middle (λ (x : LoadEntry). HasFiles x) seen e rest (subst (λ (l : List LoadEntry). All (λ (x : LoadEntry). HasFiles x) l) (sym are) has)
+pub has_files_of : (seen : List LoadEntry) (e : LoadEntry) (rest all : List LoadEntry) → seen ++ e ∷ rest ≡ all → All (λ (x : LoadEntry). HasAFile x) all → HasAFile e
+has_files_of seen e rest all are has = in_the_middle (λ (x : LoadEntry). HasAFile x) seen e rest (subst (λ (l : List LoadEntry). All (λ (x : LoadEntry). HasAFile x) l) (sym are) has)
 
 pub within_all : (seen : List LoadEntry) (e : LoadEntry) (rest all : List LoadEntry) → seen ++ e ∷ rest ≡ all → total_length seen + entries_length e.files ≤ total_length all
 within_all seen e rest all are =
     omega (arith, ap total_length are, total_joined seen (e ∷ rest), total_joined (e ∷ []) rest, total_of_one e)
 
-pub each_has_files : (loads : List LoadEntry) → FitsALayout loads → All (λ (x : LoadEntry). HasFiles x) loads
-each_has_files loads fits = All-weaker (λ (x : LoadEntry). LoadFits fits.layout x) (λ (x : LoadEntry). HasFiles x) (λ x fit. fit.some) loads fits.fits.each
+pub each_has_files : (loads : List LoadEntry) → FitsALayout loads → All (λ (x : LoadEntry). HasAFile x) loads
+each_has_files loads fits = All-weaker (λ (x : LoadEntry). LoadFits fits.layout x) (λ (x : LoadEntry). HasAFile x) (λ x fit. fit.some) loads fits.fits.each
 
 -- ---- the space that is left
 

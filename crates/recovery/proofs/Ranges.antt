@@ -5,7 +5,7 @@ use Rattle.std.specs.Prelude.{Option}
 use Rattle.std.specs.Option.{ForSome}
 use Rattle.crc_fields.specs.CheckSums.{crc16_of}
 use Rattle.disk_model.specs.Image.{Image, range}
-use Rattle.disk_layout.specs.RangeLaws.{ranges_joined}
+use Rattle.disk_layout.proofs.RangeLemmas.{ranges_joined}
 use Rattle.recovery.specs.Parts.{IsSumAt}
 use borrow.Rule.Slice.PartMut.{put_mid}
 

@@ -4,7 +4,7 @@ use Rattle.std.proofs.lemmas.Bool.{cases_lt, eqb-true, eq-eqb}
 use Rattle.disk_model.specs.Image.{Image}
 use Rattle.disk_layout.specs.Offsets.{slot_a, slot_b}
 use Rattle.disk_layout.specs.Slots.{IsOpen, IsSlot, IsActiveSlot, IsSlotAt}
-use Rattle.disk_layout.specs.SlotLaws.{a_is_active, b_is_active}
+use Rattle.disk_layout.proofs.SlotLemmas.{a_is_active, b_is_active}
 use Rattle.disk_layout.specs.declared.active.Slot.TheVariants as slots
 use Rattle.disk_layout.specs.declared.slot.SlotFields.{SlotFields}
 use Rattle.recovery.specs.Parts.{TellsOther, IsActiveSlotOn}

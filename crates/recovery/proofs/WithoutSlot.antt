@@ -3,8 +3,8 @@ use Rattle.std.proofs.Common.{◌≡◌, ◌⊎◌, inl, inr, ℕ, zero, suc, �
 use Rattle.std.specs.Prelude.{List, slice_index}
 use Rattle.field_grammar.specs.Grammar.{SpelledAtStart}
 use Rattle.disk_model.specs.Image.{Image, IsOfBytes, overlay, range}
-use Rattle.disk_model.specs.RangeLaws.{same_range}
-use Rattle.disk_model.specs.OverlayLaws.{overlay_inside, overlay_outside, range_beside_overlay}
+use Rattle.disk_model.proofs.RangeLemmas.{same_range}
+use Rattle.disk_model.proofs.OverlayLemmas.{overlay_inside, overlay_outside, range_beside_overlay}
 use Rattle.disk_layout.specs.Offsets.{number_at, slot_a, slot_b}
 use Rattle.disk_layout.specs.Identity.{HasIdentity, identity}
 use Rattle.disk_layout.specs.Slots.{IsActiveSlot, IsOpen, IsSlot, IsSlotAt, other_slot, sequence_of}

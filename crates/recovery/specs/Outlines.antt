@@ -10,7 +10,7 @@ use Rattle.disk_layout.specs.Manifest.{FitsALayout, LoadEntry, manifest, total_l
 use Rattle.disk_layout.specs.declared.active.Active.{Active}
 use Rattle.disk_layout.specs.declared.identity.Identity.{Identity}
 use Rattle.disk_layout.specs.declared.manifest.ManifestFault.{ManifestFault}
-use Rattle.recovery.specs.Parts.{HasFiles}
+use Rattle.recovery.specs.Parts.{HasAFile}
 use Rattle.recovery.specs.Surveys.{FindsOutline}
 
 -- Of so much space this is left after this many bytes; none where they are more.
@@ -49,5 +49,5 @@ pub record IsOutlineInRange (id : Identity) (active : Active) (bytes : List ℕ)
 pub record AreLoadsAt (left : Result (List LoadEntry) ManifestFault) (start end : ℕ) : Type 0 where
   pub loads : List LoadEntry
   pub are : left ≡ Ok loads
-  pub files : All (λ (entry : LoadEntry). HasFiles entry) loads
+  pub files : All (λ (entry : LoadEntry). HasAFile entry) loads
   pub within : start + total_length loads ≤ end

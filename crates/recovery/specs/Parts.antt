@@ -60,8 +60,8 @@ pub data RefusesSlot (size at : ℕ) (slot : SlotFields) (fault : RecoverFault) 
 -- ---- the manifest
 
 -- a load has a file at least, its header
-abbrev pub HasFiles : LoadEntry → Type 0
-HasFiles entry = 1 ≤ length entry.files
+abbrev pub HasAFile : LoadEntry → Type 0
+HasAFile entry = 1 ≤ length entry.files
 
 -- these bytes, which begin at an offset of the disk, are no manifest from one offset on, or the disk or memory failed
 abbrev pub IsNoManifest : List ℕ → (start : ℕ) → RecoverFault → Type 0

@@ -8,7 +8,7 @@ ghost use Rattle.disk_layout.specs.Manifest.{entry_view, total_length, entries_l
 ghost use Rattle.disk_layout.specs.Contents.{file_entry_of, entry_of, entries_of, bytes_of};
 ghost use Rattle.disk_layout.specs.Contents.{contents_of_loads, HeaderIsFirst, HeadersAreFirst};
 ghost use Rattle.disk_layout.specs.DiskReads.{IsOfDisk, ReadsDisk};
-ghost use Rattle.recovery.specs.Parts.{HasFiles};
+ghost use Rattle.recovery.specs.Parts.{HasAFile};
 
 use crate::reading::bytes_on;
 use disk_layout::{ManifestFile, ManifestLoad, RecoverFault};
@@ -25,7 +25,7 @@ pub(crate) fn loads_on<K: Disk>(
 ) -> Result<List<Load>, RecoverFault>
     requires running { (K.state disk.old).stopped ≡ false }
     requires within { start + total_length (map entry_view entries.now) ≤ SIZE }
-    requires files { All (λ entry. HasFiles entry) (map entry_view entries.now) }
+    requires files { All (λ entry. HasAFile entry) (map entry_view entries.now) }
     ensures entries { IfOk result
         (λ loads. entries_of (map load_view loads.items) ≡ map entry_view entries.now) }
     ensures headers { IfOk result (λ loads. HeadersAreFirst (map load_view loads.items)) }
@@ -45,7 +45,7 @@ pub(crate) fn loads_on<K: Disk>(
     Ok(loads)
 }
 
-// This load, whose files stand from `at` on, and the offset after them.
+/// This load, whose files stand from `at` on, and the offset after them.
 fn load_on<K: Disk>(
     alloc: Global,
     disk: &mut K,
@@ -54,7 +54,7 @@ fn load_on<K: Disk>(
 ) -> Result<(Load, u32), RecoverFault>
     requires running { (K.state disk.old).stopped ≡ false }
     requires within { at + entries_length entry.now.files.items ≤ SIZE }
-    requires files { HasFiles (entry_view entry.now) }
+    requires files { HasAFile (entry_view entry.now) }
     ensures entry { IfOk result (λ x. entry_of (load_view x.0) ≡ entry_view entry.now) }
     ensures header { IfOk result (λ x. HeaderIsFirst (load_view x.0)) }
     ensures end { IfOk result (λ x. x.1 ≡ at + entries_length entry.now.files.items) }
@@ -74,7 +74,7 @@ fn load_on<K: Disk>(
     Ok((load, end))
 }
 
-// These files, which stand back to back from `start` on, and the offset after them.
+/// These files, which stand back to back from `start` on, and the offset after them.
 fn files_on<K: Disk>(
     alloc: Global,
     disk: &mut K,
@@ -86,7 +86,8 @@ fn files_on<K: Disk>(
     ensures entries { IfOk result (λ x. map file_entry_of (map file_view x.0.items) ≡ files.now) }
     ensures end { IfOk result (λ x. x.1 ≡ start + entries_length files.now) }
     ensures bytes { IfOk result (λ x. ForSome (K.state disk.old).reads
-        (λ image. bytes_of (map file_view x.0.items) ≡ range image start (entries_length files.now))) }
+        (λ image. bytes_of (map file_view x.0.items) ≡ range image start
+        (entries_length files.now))) }
     ensures refused { IfErr result (λ fault. IsOfDisk fault) }
     ensures reads_disk { ReadsDisk (K.state disk.old) (K.state disk.new) result }
 {

@@ -32,10 +32,10 @@ use disk_model::Disk;
 use load_base::Config;
 use std::alloc::Global;
 
-/// Finds the former configuration of a disk: what the disk would hold without its active slot, where
-/// the other slot is open, of a lower sequence number, and of the other bank. Nothing is written. The
-/// first condition that fails is the refusal; V1 to V4 come first. After these and G1 to G3 the disk
-/// runs on, after DiskFailed not until a restart.
+/// Finds the former configuration of a disk: what the disk would hold without its active slot,
+/// where the other slot is open, of a lower sequence number, and of the other bank. Nothing is
+/// written. The first condition that fails is the refusal; V1 to V4 come first. After these and G1
+/// to G3 the disk runs on, after DiskFailed not until a restart.
 ///
 /// An installation shuts that slot before it writes to its bank; so where it is open, nothing was
 /// written there since it was active.
@@ -63,7 +63,7 @@ pub fn former<K: Disk>(alloc: Global, disk: &mut K) -> Result<Former, FormerFaul
     }
 }
 
-// The target, and what is active on its disk.
+/// The target, and what is active on its disk.
 fn active_part<K: Disk>(alloc: Global, disk: &mut K) -> Result<(Identity, Active), RecoverFault>
     requires { IsRunning (K.state disk.old) }
     ensures found { IfOk result (λ found. ForSome (K.state disk.old).reads
@@ -77,7 +77,7 @@ fn active_part<K: Disk>(alloc: Global, disk: &mut K) -> Result<(Identity, Active
     Ok((found.identity, found.active))
 }
 
-// What the slot says that isn't active, where it is open and older, and of the other bank.
+/// What the slot says that isn't active, where it is open and older, and of the other bank.
 fn older_slot_on<K: Disk>(disk: &mut K, active: &Active) -> Result<SlotFields, FormerFault>
     requires { IsRunning (K.state disk.old) }
     ensures says { IfOk result (λ says. ForSome (K.state disk.old).reads
@@ -94,7 +94,7 @@ fn older_slot_on<K: Disk>(disk: &mut K, active: &Active) -> Result<SlotFields, F
     Ok(says)
 }
 
-// What the slot at this offset says can be of the configuration before this one.
+/// What the slot at this offset says can be of the configuration before this one.
 fn check_older(active: &Active, at: u32, says: &SlotFields) -> Result<(), FormerFault>
     requires { at ≤ 8192 }
     ensures ok { OnOk result (IsOlderSlot active.now says.now) }
@@ -112,7 +112,7 @@ fn check_older(active: &Active, at: u32, says: &SlotFields) -> Result<(), Former
     Ok(())
 }
 
-// The configuration that this slot names, which says this, on the disk of this target.
+/// The configuration that this slot names, which says this, on the disk of this target.
 fn standing_by<K: Disk>(
     alloc: Global,
     disk: &mut K,
@@ -144,8 +144,8 @@ fn standing_by<K: Disk>(
     })
 }
 
-// A fault of the other slot or of its manifest, as one of what is former. Its offset is one of the
-// disk, and fits four bytes.
+/// A fault of the other slot or of its manifest, as one of what is former. Its offset is one of the
+/// disk, and fits four bytes.
 fn other_fault(fault: RecoverFault) -> FormerFault
     requires { IsOfSlot fault }
     ensures of { result ≡ other_fault_of fault }

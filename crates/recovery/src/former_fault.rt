@@ -8,8 +8,8 @@ use printed_text::{Printed, coded};
 use std::alloc::Global;
 use thiserror::Error;
 
-/// Why a disk has no former configuration, or why it couldn't be read. An offset is a byte offset on
-/// the disk, from 0 (docs/DISK.md).
+/// Why a disk has no former configuration, or why it couldn't be read. An offset is a byte offset
+/// on the disk, from 0 (docs/DISK.md).
 #[derive(Clone, Copy, Debug, PartialEq, Eq, Drop, Error)]
 pub enum FormerFault {
     /// V1 to V4: the disk holds no configuration at all.
@@ -18,9 +18,9 @@ pub enum FormerFault {
     /// G1: the other slot is shut. Nothing was active before, or an installation has begun since.
     #[error("the other slot is shut")]
     SlotClosed,
-    /// G2: what the other slot says can't be of the configuration before; the offset of its sequence
-    /// number, which isn't lower, of its bank, which isn't the other one, of the manifest's length,
-    /// or of the manifest's offset, where the manifest passes the bank.
+    /// G2: what the other slot says can't be of the configuration before; the offset of its
+    /// sequence number, which isn't lower, of its bank, which isn't the other one, of the
+    /// manifest's length, or of the manifest's offset, where the manifest passes the bank.
     #[error("the other slot is wrong at offset {0}")]
     SlotBad(u32),
     /// G3: the manifest that the other slot names isn't in its form; the first offset at which it
@@ -56,8 +56,8 @@ impl Printed for FormerFault {
 
     ghost longest = { 23 };
 
-    /// `G1`, `G2 OFFSET` or `G3 OFFSET`; V1 to V4 as [`RecoverFault`]. A failure of the disk is told
-    /// otherwise, and has no text here.
+    /// `G1`, `G2 OFFSET` or `G3 OFFSET`; V1 to V4 as [`RecoverFault`]. A failure of the disk is
+    /// told otherwise, and has no text here.
     fn text(&self, alloc: Global) -> Result<Text, NoMemory> {
         match *self {
             FormerFault::Recover(fault) => fault.text(alloc),

@@ -7,7 +7,7 @@ ghost use Rattle.disk_layout.specs.Holds.{Refuses};
 ghost use Rattle.disk_layout.specs.Manifest.{entry_view, left_in, entries_length};
 ghost use Rattle.recovery.specs.Listings.{IsListing, ListsFile, ListsFiles, ListsLoad, ListsAll};
 ghost use Rattle.recovery.specs.Outlines.{AreLoadsAt};
-ghost use Rattle.recovery.specs.Parts.{HasFiles};
+ghost use Rattle.recovery.specs.Parts.{HasAFile};
 
 use crate::manifests::outline_on;
 use crate::reading::{PIECE, sum_on};
@@ -49,7 +49,7 @@ pub fn list<K: Disk>(alloc: Global, disk: &mut K) -> Result<Bytes, RecoverFault>
     Ok(out)
 }
 
-// The loads that are left, whose files stand back to back from `start` on.
+/// The loads that are left, whose files stand back to back from `start` on.
 fn put_loads<K: Disk>(
     alloc: Global,
     disk: &mut K,
@@ -72,17 +72,19 @@ fn put_loads<K: Disk>(
         let load = match loads.next_load(alloc) {
             Ok(load) => load,
             Err(ManifestFault::Memory) => return Err(RecoverFault::Memory),
+            // The premise says that the rest is a manifest's.
             Err(ManifestFault::Wrong(_)) => unreachable!(),
         };
         at = put_load(alloc, disk, at, &load, buffer, out)?;
     }
     match loads.end() {
         Ok(()) => Ok(()),
+        // All loads were read, and the manifest ends after them.
         Err(_) => unreachable!(),
     }
 }
 
-// This load, whose files stand from `at` on. The offset after them.
+/// This load, whose files stand from `at` on. The offset after them.
 fn put_load<K: Disk>(
     alloc: Global,
     disk: &mut K,
@@ -93,7 +95,7 @@ fn put_load<K: Disk>(
 ) -> Result<u32, RecoverFault>
     requires running { (K.state disk.old).stopped ≡ false }
     requires within { at + entries_length entry.now.files.items ≤ SIZE }
-    requires files { HasFiles (entry_view entry.now) }
+    requires files { HasAFile (entry_view entry.now) }
     requires buffer { 1 ≤ length buffer.old }
     ensures end { IfOk result (λ end. end ≡ at + entries_length entry.now.files.items) }
     ensures listed { OnOk result (ListsLoad (K.state disk.old).reads at (entry_view entry.now)
@@ -106,7 +108,7 @@ fn put_load<K: Disk>(
     put_files(alloc, disk, at, files, buffer, out)
 }
 
-// These files, which stand back to back from `start` on. The offset after them.
+/// These files, which stand back to back from `start` on. The offset after them.
 fn put_files<K: Disk>(
     alloc: Global,
     disk: &mut K,
@@ -132,7 +134,7 @@ fn put_files<K: Disk>(
     Ok(at)
 }
 
-// This file, which stands from `at` on.
+/// This file, which stands from `at` on.
 fn put_file<K: Disk>(
     alloc: Global,
     disk: &mut K,

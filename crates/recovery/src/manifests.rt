@@ -14,7 +14,8 @@ ghost use Rattle.disk_layout.specs.declared.fault.RecoverFault.TheVariants.{Disk
 ghost use Rattle.bank_store.specs.DiskWrites.{IsRunning};
 ghost use Rattle.recovery.specs.FormerParts.{IsOfSlot};
 ghost use Rattle.recovery.specs.Parts.{IsSoundFor, RefusesLoads, RefusesManifest};
-ghost use Rattle.recovery.specs.Outlines.{LeftAfterLoads, IsLeftAfter, IsOutlineInRange, TellsLoads};
+ghost use Rattle.recovery.specs.Outlines.{LeftAfterLoads, IsLeftAfter, IsOutlineInRange};
+ghost use Rattle.recovery.specs.Outlines.{TellsLoads};
 ghost use Rattle.recovery.specs.Outlines.{TellsOutline};
 
 use crate::reading::bytes_on;
@@ -96,11 +97,13 @@ pub(crate) fn manifest_told(alloc: Global, bytes: &[u8]) -> Result<Manifest, NoM
     match Manifest::decode(alloc, bytes) {
         Ok(manifest) => Ok(manifest),
         Err(ManifestFault::Memory) => Err(NoMemory),
+        // The premise says that this is a manifest.
         Err(ManifestFault::Wrong(_)) => unreachable!(),
     }
 }
 
-// The bytes of the manifest that the slot names, whose files have as many bytes as stand before it.
+/// The bytes of the manifest that the slot names, whose files have as many bytes as stand before
+/// it.
 fn manifest_bytes_on<K: Disk>(
     alloc: Global,
     disk: &mut K,
@@ -126,8 +129,8 @@ fn manifest_bytes_on<K: Disk>(
     Ok(bytes)
 }
 
-// These bytes, which begin at an offset of the disk, are a manifest, and the files of its loads
-// have this many bytes together.
+/// These bytes, which begin at an offset of the disk, are a manifest, and the files of its loads
+/// have this many bytes together.
 fn check_manifest(
     alloc: Global,
     bytes: &[u8],
@@ -148,8 +151,8 @@ fn check_manifest(
     }
 }
 
-// How many of this many bytes are left after the files of a manifest's loads; `None` where they have
-// more.
+/// How many of this many bytes are left after the files of a manifest's loads; `None` where they
+/// have more.
 fn left_after_loads(alloc: Global, bytes: &[u8], space: u32) -> Result<Option<u32>, ManifestFault>
     ensures space { IfOk result (λ left. LeftAfterLoads bytes.now space left) }
     ensures refused { IfErr result (λ fault. RefusesManifestBytes bytes.now fault) }
@@ -166,7 +169,7 @@ fn left_after_loads(alloc: Global, bytes: &[u8], space: u32) -> Result<Option<u3
     Ok(left)
 }
 
-// How many are left after these files too.
+/// How many are left after these files too.
 fn left_after_load(left: Option<u32>, files: &[ManifestFile]) -> Option<u32>
     ensures { (space total : ℕ) → IsLeftAfter space total left
         → IsLeftAfter space (total + entries_length files.now) result }
@@ -177,7 +180,7 @@ fn left_after_load(left: Option<u32>, files: &[ManifestFile]) -> Option<u32>
     }
 }
 
-// How many are left after these; `None` where they have more.
+/// How many are left after these; `None` where they have more.
 fn left_after_files(files: &[ManifestFile], bytes: u32) -> Option<u32>
     ensures some { IfSome result (λ rest. entries_length files.now + rest ≡ bytes) }
     ensures none { IfNone result (bytes < entries_length files.now) }

@@ -33,7 +33,7 @@ pub(crate) fn read_from<K: Disk>(disk: &mut K, at: u32, buf: &mut [u8]) -> Resul
     Ok(())
 }
 
-// Fills `buf` from the disk by one call.
+/// Fills `buf` from the disk by one call.
 fn read_piece<K: Disk>(disk: &mut K, at: u32, buf: &mut [u8]) -> Result<(), RecoverFault>
     requires running { (K.state disk.old).stopped ≡ false }
     requires within { at + length buf.old ≤ SIZE }
@@ -94,7 +94,7 @@ pub(crate) fn sum_on<K: Disk>(
     Ok(sum.value())
 }
 
-// Adds what stands at an offset to a check sum, as much as the buffer takes.
+/// Adds what stands at an offset to a check sum, as much as the buffer takes.
 fn add_piece<K: Disk>(
     disk: &mut K,
     at: u32,

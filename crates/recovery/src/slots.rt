@@ -7,7 +7,8 @@ ghost use Rattle.disk_layout.specs.Slots.{slot_offset, bank_number, IsSlotAt};
 ghost use Rattle.disk_layout.specs.Holds.{Refuses};
 ghost use Rattle.disk_layout.specs.DiskReads.{IsOfDisk, ReadsDisk};
 ghost use Rattle.bank_store.specs.DiskWrites.{IsRunning};
-ghost use Rattle.recovery.specs.Parts.{IsActiveSlotOn, IsActiveSlotOfTarget, RefusesSlots, RefusesSlot};
+ghost use Rattle.recovery.specs.Parts.{IsActiveSlotOn, IsActiveSlotOfTarget, RefusesSlots};
+ghost use Rattle.recovery.specs.Parts.{RefusesSlot};
 ghost use Rattle.recovery.specs.Parts.{IsSoundFor};
 
 use crate::reading::read_from;

@@ -31,8 +31,8 @@ pub struct Surveyed {
 /// a restart.
 ///
 /// The store that it gives installs on this disk, beside what is active there. What its calls
-/// promise of a power loss they promise where one could take nothing but work of an installation, as
-/// after a sync or a restart, and after a run.
+/// promise of a power loss they promise where one could take nothing but work of an installation,
+/// as after a sync or a restart, and after a run.
 pub fn survey<K: Disk>(alloc: Global, disk: &mut K) -> Result<Surveyed, RecoverFault>
     requires { IsRunning (K.state disk.old) }
     ensures found { IfOk result (λ surveyed. ForSome (K.state disk.old).reads

@@ -9,8 +9,8 @@ use Rattle.exchange_trace.specs.Posts.{posted_in}
 use Rattle.exchange_trace.specs.Steps.{Boot_refused, Came_up, Note, Step, Went_down}
 use Rattle.session_rules.specs.SoundLogs.{IsNewAt, StaysOrIsNew}
 use Rattle.session_rules.specs.TargetLog.{TargetReading}
-use Rattle.replay_rules.specs.BothEnds.{Is_down, Is_up, Setting, TargetState, come_up, gone_down, noted, reached, settled, target_at}
-use Rattle.replay_rules.specs.ChangeLaws.{HasTarget, has_target}
+use Rattle.replay_rules.specs.BothEnds.{Is_down, Is_up, Setting, TargetStanding, come_up, gone_down, noted, reached, settled, target_at}
+use Rattle.replay_rules.proofs.ChangeLemmas.{HasTarget, has_target}
 use Rattle.replay_rules.specs.Changes.{AllStayOrAreNew, TargetStaysOrIsNew}
 use Rattle.replay_rules.specs.Histories.{active_in, may_be_active}
 
@@ -19,7 +19,7 @@ abbrev pub IsKept : Setting → (StandingView → Type 0) → Type 0
 IsKept set Has = (before after : TargetReading) → IsNewAt set.accepts before after → before.active.identity ≡ set.start.identity → Has before.active → Has after.active
 
 module _ (set : Setting) (Has : StandingView → Type 0) (kept : IsKept set Has) where
-  abbrev AllHave : TargetState → Type 0
+  abbrev AllHave : TargetStanding → Type 0
   AllHave state = AllByRecursion Has (may_be_active state)
 
   stays : (before after : TargetReading) → StaysOrIsNew set.accepts before after → before.active.identity ≡ set.start.identity → Has before.active → Has after.active
@@ -30,7 +30,7 @@ module _ (set : Setting) (Has : StandingView → Type 0) (kept : IsKept set Has)
   gone_if before after true has then = (has, tt)
   gone_if before after false has then = (has, (then, tt))
 
-  gone_have : (before after : TargetState) → AllHave before → AllHave after → AllHave (gone_down before after)
+  gone_have : (before after : TargetStanding) → AllHave before → AllHave after → AllHave (gone_down before after)
   gone_have (Is_up r) (Is_up s) (has, none) (then, nothing) = gone_if r.active s.active (r.active.sequence == s.active.sequence) has then
   gone_have (Is_up r) (Is_down active interrupted) have then = then
   gone_have (Is_down active interrupted) after have then = have
@@ -43,11 +43,11 @@ module _ (set : Setting) (Has : StandingView → Type 0) (kept : IsKept set Has)
       by true = then
       by false = has
 
-  come_have : (first_port sequence : ℕ) (state : TargetState) → AllHave state → AllHave (come_up first_port sequence state)
+  come_have : (first_port sequence : ℕ) (state : TargetStanding) → AllHave state → AllHave (come_up first_port sequence state)
   come_have first_port sequence (Is_up r) have = have
   come_have first_port sequence (Is_down active interrupted) have = (settled_has sequence active interrupted have, tt)
 
-  noted_have : (notes : List Note) (before after : TargetState) → AllHave before → AllHave after → AllHave (noted notes before after)
+  noted_have : (notes : List Note) (before after : TargetStanding) → AllHave before → AllHave after → AllHave (noted notes before after)
   noted_have [] before after have then = then
   noted_have (Went_down ∷ notes) before after have then = let down = gone_have before after have then in noted_have notes (gone_down before after) (gone_down before after) down down
   noted_have (Came_up first_port sequence ∷ notes) before after have then =
@@ -55,7 +55,7 @@ module _ (set : Setting) (Has : StandingView → Type 0) (kept : IsKept set Has)
       noted_have notes (come_up first_port sequence (gone_down before after)) (come_up first_port sequence (gone_down before after)) up up
   noted_have (Boot_refused fault ∷ notes) before after have then = let down = gone_have before after have then in noted_have notes (gone_down before after) (gone_down before after) down down
 
-  reached_have : (e : Option Event) (state : TargetState) → TargetStaysOrIsNew set state (reached set e state) → HasTarget set state → AllHave state → AllHave (reached set e state)
+  reached_have : (e : Option Event) (state : TargetStanding) → TargetStaysOrIsNew set state (reached set e state) → HasTarget set state → AllHave state → AllHave (reached set e state)
   reached_have None (Is_up r) change is have = have
   reached_have (Some e) (Is_up r) change is (has, none) = (stays r _ change is has, tt)
   reached_have None (Is_down active interrupted) change is have = have
@@ -67,7 +67,7 @@ module _ (set : Setting) (Has : StandingView → Type 0) (kept : IsKept set Has)
       let have = all_have first earlier all in
       noted_have s.notes (target_at set earlier) _ have (reached_have (event_for sides.Target (posted_in earlier) s.given) (target_at set earlier) change (has_target set earlier all) have)
 
-  active_one : (state : TargetState) → AllHave state → Has (active_in state)
+  active_one : (state : TargetStanding) → AllHave state → Has (active_in state)
   active_one (Is_up r) have = have.0
   active_one (Is_down active None) have = have.0
   active_one (Is_down active (Some new)) have = have.0

@@ -7,22 +7,22 @@ use Rattle.exchange_trace.specs.Logs.{Event, event_for, logged, loader_log}
 use Rattle.exchange_trace.specs.Posts.{posted_in}
 use Rattle.exchange_trace.specs.Steps.{Note, Step}
 use Rattle.transfer_end.specs.Moves.{readings_after}
-use Rattle.transfer_end.specs.OtherEndLaws.{own_not_59}
-use Rattle.transfer_end.specs.OtherEnds.{Among, HasBegun, IsFair, IsPostOfSide, MovesStayFair, OwnPortsRise, all_of, answered, is_asking, of_refusal, of_transfer, refused, served, unanswered}
+use Rattle.transfer_end.proofs.OtherEndLemmas.{own_not_59}
+use Rattle.transfer_end.specs.OtherEnds.{Among, TransferHasBegun, IsFair, IsPostOfSide, MovesStayFair, OwnPortsRise, all_of, answered, is_asking, of_refusal, of_transfer, refused, served, unanswered}
 use Rattle.transfer_end.specs.Readings.{Reading}
 use Rattle.transfer_end.specs.Transfers.{Transfer}
-use Rattle.session_rules.specs.BufferLaws.{SumsJoin}
-use Rattle.session_rules.specs.FairLaws.{loader_ports_stay}
+use Rattle.session_rules.proofs.BufferLemmas.{SumsJoin}
+use Rattle.session_rules.proofs.FairLemmas.{loader_ports_stay}
 use Rattle.session_rules.specs.Loader.{loader_decision}
-use Rattle.session_rules.specs.LoaderLaws.{end_stays as loader_end_stays}
+use Rattle.session_rules.proofs.LoaderLemmas.{end_stays as loader_end_stays}
 use Rattle.session_rules.specs.LoaderLog.{loader_reading, loader_view}
 use Rattle.session_rules.specs.MediaFiles.{Media}
 use Rattle.session_rules.specs.Target.{target_decision}
-use Rattle.session_rules.specs.TargetLaws.{end_stays as target_end_stays}
+use Rattle.session_rules.proofs.TargetLemmas.{end_stays as target_end_stays}
 use Rattle.session_rules.specs.TargetLog.{target_view}
-use Rattle.replay_rules.specs.BothEnds.{Is_down, Is_up, Setting, TargetState, loader_at, noted, reached, target_at}
+use Rattle.replay_rules.specs.BothEnds.{Is_down, Is_up, Setting, TargetStanding, loader_at, noted, reached, target_at}
 use Rattle.replay_rules.specs.Due.{due_of_loader, due_of_target}
-use Rattle.replay_rules.specs.ChangeLaws.{posted_bytes}
+use Rattle.replay_rules.proofs.ChangeLemmas.{posted_bytes}
 use Rattle.replay_rules.specs.OtherEndTraces.{IsUninjected, former_at, loader_transfers, over_with, target_transfers, transfers_of}
 use Rattle.replay_rules.proofs.Growing.{GrowsTo, IsNewer, WasThere, grows_none, grows_on, moves_grow}
 use Rattle.replay_rules.proofs.ListedTraces.{one_noted}
@@ -46,7 +46,7 @@ loader_grows_over set [] steps = grows_none (loader_transfers set steps)
 loader_grows_over set (s ∷ since) steps =
     grows_on (loader_transfers set steps) (loader_transfers set (since ++ steps)) (loader_transfers set (s ∷ since ++ steps)) (loader_grows_over set since steps) (loader_grows set s (since ++ steps))
 
-target_grows : (set : Setting) (state : TargetState) (e : Option Event) (former : List Transfer) → TargetHas state former → GrowsTo (transfers_of state ++ former) (transfers_of (reached set e state) ++ former)
+target_grows : (set : Setting) (state : TargetStanding) (e : Option Event) (former : List Transfer) → TargetHas state former → GrowsTo (transfers_of state ++ former) (transfers_of (reached set e state) ++ former)
 target_grows set (Is_up r) None former has = grows_none (all_of r.end former)
 target_grows set (Is_up r) (Some e) former (last, ports) =
     let d = target_decision set.accepts (target_view r) e in
@@ -72,7 +72,7 @@ took_one me them mine theirs posted t one other_one a serves = by (one.begun t a
     of_post peer d from (of_transfer w b post) = inr (w, b, sym post.port ∙ from)
     of_post peer d from (of_refusal is_59 bytes) = inl (sym from ∙ is_59)
 
-    by : HasBegun posted them theirs t → TookOne theirs t
+    by : TransferHasBegun posted them theirs t → TookOne theirs t
     by (served also took) = record {
       peer = took.peer;
       bound = took.bound;

@@ -15,26 +15,26 @@ use Rattle.exchange_trace.specs.Steps.{Step}
 use Rattle.transfer_end.specs.Moves.{past_with}
 use Rattle.transfer_end.specs.OtherEnds.{Among, AnswersRequest, ComesFromEnd, TellsLength, file_sent, is_asking, is_receiving, of_end, of_none}
 use Rattle.transfer_end.specs.Readings.{Reading}
-use Rattle.transfer_end.specs.RfcLaws.{end_is_of_link}
+use Rattle.transfer_end.proofs.RfcLemmas.{end_is_of_link}
 use Rattle.transfer_end.specs.Transfers.{LinkEnd, Reads, Role, ServesRead, ServesWrite, Transfer, Writes, arrived_of, arriving_in, end_answer, end_in, end_moved, end_of, is_received}
-use Rattle.transfer_end.specs.ViewLaws.{end_of_more}
+use Rattle.transfer_end.proofs.ViewLemmas.{end_of_more}
 use Rattle.session_rules.specs.declared.outcome.FileKind.{FileKind}
 use Rattle.session_rules.specs.declared.outcome.Outcome.{Outcome}
 use Rattle.session_rules.specs.declared.outcome.Outcome.TheVariants.{BadFile}
-use Rattle.session_rules.specs.BufferLaws.{SumsJoin, buffered_on}
+use Rattle.session_rules.proofs.BufferLemmas.{SumsJoin, buffered_on}
 use Rattle.session_rules.specs.Buffers.{Buffer, buffered, buffered_more}
-use Rattle.session_rules.specs.HeardLaws.{loader_takes_what_came}
+use Rattle.session_rules.proofs.HeardLemmas.{loader_takes_what_came}
 use Rattle.session_rules.specs.LoaderLog.{LoaderReading, loader_extended, loader_reading, newest}
-use Rattle.session_rules.specs.LoaderRoleLaws.{arrived_last, longer, whole_prefix}
+use Rattle.session_rules.proofs.LoaderRoleLemmas.{arrived_last, longer, whole_prefix}
 use Rattle.session_rules.specs.LoaderRoles.{loader_row}
 use Rattle.session_rules.specs.LoaderRows.{Comes_to, bytes_turn, file_turn}
-use Rattle.session_rules.specs.SoundLogLaws.{PayloadsAreBytes, newest_bytes}
+use Rattle.session_rules.proofs.SoundLogLemmas.{PayloadsAreBytes, newest_bytes}
 use Rattle.session_rules.specs.SoundLogs.{LogIsBytes}
-use Rattle.replay_rules.specs.BothEnds.{Setting, TargetState, loader_at, reached, target_at}
+use Rattle.replay_rules.specs.BothEnds.{Setting, TargetStanding, loader_at, reached, target_at}
 use Rattle.replay_rules.specs.Changes.{AllStayOrAreNew}
 use Rattle.replay_rules.specs.OtherEndTraces.{AllArriveAsSent, IsUninjected, WhatArrivesWasSent, former_at, loader_transfers, target_transfers, transfers_of}
 use Rattle.replay_rules.proofs.NewestStart.{asks_not}
-use Rattle.replay_rules.specs.Causes.{EndsAs, IsOfFile}
+use Rattle.replay_rules.specs.Causes.{EndsAs, IsOutcomeOfFile}
 use Rattle.replay_rules.proofs.FileEnds.{EndedByFile, ended_by_file}
 use Rattle.replay_rules.proofs.ListedTraces.{false_is_true, only_loader, reached_none}
 use Rattle.replay_rules.proofs.Replies.{not_too_long}
@@ -178,7 +178,7 @@ module _ (joins : SumsJoin) (payloads : PayloadsAreBytes) (arrives : WhatArrives
         ap (λ (x : List ℕ). bytes_turn (loader_row h.ends.session) x) (sym bytes) ∙ turn
 
     target_is : target_transfers set s earlier ≡ transfers_of (target_at set earlier) ++ former_at set earlier
-    target_is = ap (λ (state : TargetState). transfers_of state ++ former_at set earlier) (ap (λ (x : Option Event). reached set x (target_at set earlier)) alone ∙ reached_none set (target_at set earlier))
+    target_is = ap (λ (state : TargetStanding). transfers_of state ++ former_at set earlier) (ap (λ (x : Option Event). reached set x (target_at set earlier)) alone ∙ reached_none set (target_at set earlier))
 
     by : ComesFromEnd (target_transfers set s earlier) ended → EndedByTarget set s earlier outcome
     by (of_none none not) = absurd (false_is_true (sym not ∙ receives.1))
@@ -206,7 +206,7 @@ module _ (joins : SumsJoin) (payloads : PayloadsAreBytes) (arrives : WhatArrives
     by_event : EndedByTarget set s earlier outcome
     by_event = by (sent.0.at_loader ended among receives.0)
 
-  pub ended_by_target : IsOfFile outcome → EndsAs set s earlier outcome → EndedByTarget set s earlier outcome
+  pub ended_by_target : IsOutcomeOfFile outcome → EndsAs set s earlier outcome → EndedByTarget set s earlier outcome
   ended_by_target of_file h = by (event_for sides.Loader (posted_in earlier) s.given) refl h.ended
     where
       by : (e : Option Event) → event_for sides.Loader (posted_in earlier) s.given ≡ e → (loader_reading set.media (logged e (loader_log earlier))).ended ≡ h.session ∷ (loader_at set earlier).ended → EndedByTarget set s earlier outcome
@@ -214,7 +214,7 @@ module _ (joins : SumsJoin) (payloads : PayloadsAreBytes) (arrives : WhatArrives
       by (Some e) comes grew = alone (only_loader (posted_in earlier) s.given e comes)
         where
           ended_now : EndedByFile set.media (loader_at set earlier) e outcome
-          ended_now = subst (λ (x : Outcome). EndedByFile set.media (loader_at set earlier) e x) h.came_to (ended_by_file set.media (loader_log earlier) e h.session grew (subst IsOfFile (sym h.came_to) of_file))
+          ended_now = subst (λ (x : Outcome). EndedByFile set.media (loader_at set earlier) e x) h.came_to (ended_by_file set.media (loader_log earlier) e h.session grew (subst IsOutcomeOfFile (sym h.came_to) of_file))
 
           alone : (event_for sides.Target (posted_in earlier) s.given ≡ None) ⊎ ((size : Option ℕ) × (e ≡ Learns size)) → EndedByTarget set s earlier outcome
           alone (inl none) = by_event e comes none ended_now

@@ -6,7 +6,7 @@ use Rattle.std.proofs.lemmas.Bool.{eq-eqb}
 use Rattle.std.proofs.lemmas.List.Elements.{All-cons, All-nil}
 use Rattle.std.proofs.lemmas.Slice.Eq.{bytes_eq-Decides}
 use Rattle.field_grammar.specs.Answers.{answer}
-use Rattle.field_grammar.specs.ExactLaws.{answer-spelled, spelled_at_start}
+use Rattle.field_grammar.proofs.ExactLemmas.{answer-spelled, spelled_at_start}
 use Rattle.field_grammar.specs.Fields.{number_bytes}
 use Rattle.field_grammar.specs.Grammar.{Spelled}
 use Rattle.load_base.specs.Config.{LoadView}
@@ -14,7 +14,7 @@ use Rattle.load_protocol_files.specs.declared.fault.FileFault.{FileFault}
 use Rattle.load_protocol_files.specs.declared.lur.Wanted.{Wanted}
 use Rattle.load_protocol_files.specs.Files.{file_fields}
 use Rattle.load_protocol_files.specs.Lur.{LurFits, LurSpells, LurView, WantedFits, lur}
-use Rattle.load_protocol_files.specs.LurLaws.{lur_is_small}
+use Rattle.load_protocol_files.specs.Laws.Lur.{lur_is_small}
 use Rattle.load_protocol_files.specs.Pieces.{counted_fields}
 use Rattle.disk_layout.specs.Holds.{StandingView}
 use Rattle.exchange_trace.specs.declared.trace.Side.TheVariants as sides
@@ -24,32 +24,32 @@ use Rattle.exchange_trace.specs.Posts.{numbered, posted_in}
 use Rattle.exchange_trace.specs.Steps.{Boot_refused, Came_up, Note, Step, Went_down}
 use Rattle.accept_rules.specs.Permissions.{AcceptsPermitted}
 use Rattle.transfer_end.specs.Moves.{past_with}
-use Rattle.transfer_end.specs.OtherEndLaws.{all_at, among_either, among_left, among_right}
+use Rattle.transfer_end.proofs.OtherEndLemmas.{all_at, among_either, among_left, among_right}
 use Rattle.transfer_end.specs.OtherEnds.{Among, AnswersRequest, ComesFromEnd, MovesStayFair, TellsLength, file_sent, is_asking, of_end, of_none}
 use Rattle.transfer_end.specs.Transfers.{Reads, Role, ServesRead, ServesWrite, Transfer, Writes, arrived_of}
-use Rattle.session_rules.specs.ArrivedRequestLaws.{target_step_requests}
-use Rattle.session_rules.specs.BufferLaws.{SumsJoin}
+use Rattle.session_rules.proofs.ArrivedRequestLemmas.{target_step_requests}
+use Rattle.session_rules.proofs.BufferLemmas.{SumsJoin}
 use Rattle.session_rules.specs.MediaFiles.{Media, entry_with, wanted_of, with_entry}
 use Rattle.session_rules.specs.NewConfigs.{IsWanted}
-use Rattle.session_rules.specs.ReadFileLaws.{RequestsAreSpelled}
+use Rattle.session_rules.proofs.ReadFileLemmas.{RequestsAreSpelled}
 use Rattle.session_rules.specs.Reports.{lur_file}
-use Rattle.session_rules.specs.RequestLaws.{loader_writes_requests}
+use Rattle.session_rules.proofs.RequestLemmas.{loader_writes_requests}
 use Rattle.session_rules.specs.Requests.{AreStarted, InstallsRequest, RequestArrived, SessionHasRequest, WritesRequest}
-use Rattle.session_rules.specs.SoundLogLaws.{PayloadsAreBytes}
+use Rattle.session_rules.proofs.SoundLogLemmas.{PayloadsAreBytes}
 use Rattle.session_rules.specs.SoundLogs.{IsNewAt}
-use Rattle.session_rules.specs.SoundnessLaws.{HeadersAreSpelled}
+use Rattle.session_rules.proofs.SoundnessLemmas.{HeadersAreSpelled}
 use Rattle.session_rules.specs.TargetLog.{TargetReading, target_extended}
 use Rattle.replay_rules.specs.AskedTraces.{AllBroughtAreAsked, BroughtIsAsked, EntriesFit, InstallsAreAsked, IsAskedFor}
-use Rattle.replay_rules.specs.BothEnds.{Is_down, Is_up, Setting, TargetState, changed, come_up, gone_down, loader_at, noted, reached, target_at}
-use Rattle.replay_rules.specs.CameTraceLaws.{target_takes}
-use Rattle.replay_rules.specs.CameTraces.{TargetTakes}
-use Rattle.replay_rules.specs.ChangeLaws.{TargetIsSound, changes_are_new, event_bytes, posted_bytes, target_sound, BringsBytes}
+use Rattle.replay_rules.specs.BothEnds.{Is_down, Is_up, Setting, TargetStanding, changed, come_up, gone_down, loader_at, noted, reached, target_at}
+use Rattle.replay_rules.proofs.CameTraceLemmas.{target_takes}
+use Rattle.replay_rules.specs.CameTraces.{LifeTakesWhatCame}
+use Rattle.replay_rules.proofs.ChangeLemmas.{TargetIsSound, changes_are_new, event_bytes, posted_bytes, target_sound, BringsBytes}
 use Rattle.replay_rules.specs.Changes.{AllCarryBytes, AllStayOrAreNew, TargetStaysOrIsNew}
-use Rattle.replay_rules.specs.CompletedRows.{new_is_made}
+use Rattle.replay_rules.proofs.CompletedRows.{new_is_made}
 use Rattle.replay_rules.specs.Histories.{active_in, brings}
-use Rattle.replay_rules.specs.Promises.{HasParts}
+use Rattle.replay_rules.specs.Promises.{HavePartsAsked}
 use Rattle.replay_rules.specs.OtherEndTraces.{AllArriveAsSent, ArrivesAsSent, former_at, loader_transfers, target_transfers, transfers_of}
-use Rattle.replay_rules.specs.TieLaws.{HasLive, target_is_live}
+use Rattle.replay_rules.proofs.TieLemmas.{HasLive, target_is_live}
 use Rattle.replay_rules.proofs.ListedTraces.{false_is_true, only_loader}
 use Rattle.replay_rules.proofs.SentTraces.{what_arrives_was_sent}
 
@@ -215,7 +215,7 @@ module _ (reads : RequestsAreRead) (set : Setting) (s : Step) (earlier : List St
         parts = started.parts;
         split = split;
         starts = starts;
-        asked = new_is_made set.accepts r (target_extended set.accepts r e) new (HasParts started.parts) (parts_of new.upload.request new.loads new.new.each ∙ parts);
+        asked = new_is_made set.accepts r (target_extended set.accepts r e) new (HavePartsAsked started.parts) (parts_of new.upload.request new.loads new.new.each ∙ parts);
       }
     where
       with_live : (live : Option Transfer) (past : List Transfer) (t : Transfer) → Among t past → Among t (past_with live past)
@@ -225,37 +225,37 @@ module _ (reads : RequestsAreRead) (set : Setting) (s : Step) (earlier : List St
       there : (t : Transfer) → Among t (target_extended set.accepts r e).end.past → Among t (target_transfers set s earlier)
       there t a =
           subst (λ (x : Option Event). Among t (transfers_of (reached set x (target_at set earlier)) ++ former_at set earlier)) (sym comes)
-          (subst (λ (state : TargetState). Among t (transfers_of (reached set (Some e) state) ++ former_at set earlier)) (sym up)
+          (subst (λ (state : TargetStanding). Among t (transfers_of (reached set (Some e) state) ++ former_at set earlier)) (sym up)
           (among_left t (past_with (target_extended set.accepts r e).end.live (target_extended set.accepts r e).end.past) (former_at set earlier) (with_live (target_extended set.accepts r e).end.live (target_extended set.accepts r e).end.past t a)))
 
 -- ---- what the target was asked for, at each moment
 
-abbrev pub TargetHas : TargetState → Type 0
+abbrev pub TargetHas : TargetStanding → Type 0
 TargetHas (Is_up r) = SessionHasRequest r
 TargetHas (Is_down active interrupted) = Unit {0}
 
-gone_has : (set : Setting) (before after : TargetState) → TargetHas (gone_down before after)
+gone_has : (set : Setting) (before after : TargetStanding) → TargetHas (gone_down before after)
 gone_has set (Is_up r) (Is_up s) = tt
 gone_has set (Is_up r) (Is_down active interrupted) = tt
 gone_has set (Is_down active interrupted) after = tt
 
-come_has : (set : Setting) (first_port sequence : ℕ) (state : TargetState) → TargetHas state → TargetHas (come_up first_port sequence state)
+come_has : (set : Setting) (first_port sequence : ℕ) (state : TargetStanding) → TargetHas state → TargetHas (come_up first_port sequence state)
 come_has set first_port sequence (Is_up r) h = h
 come_has set first_port sequence (Is_down active interrupted) h = tt
 
-noted_has : (set : Setting) (notes : List Note) (before after : TargetState) → TargetHas after → TargetHas (noted notes before after)
+noted_has : (set : Setting) (notes : List Note) (before after : TargetStanding) → TargetHas after → TargetHas (noted notes before after)
 noted_has set [] before after h = h
 noted_has set (Went_down ∷ notes) before after h = noted_has set notes (gone_down before after) (gone_down before after) (gone_has set before after)
 noted_has set (Came_up first_port sequence ∷ notes) before after h =
     let up = come_up first_port sequence (gone_down before after) in noted_has set notes up up (come_has set first_port sequence (gone_down before after) (gone_has set before after))
 noted_has set (Boot_refused fault ∷ notes) before after h = noted_has set notes (gone_down before after) (gone_down before after) (gone_has set before after)
 
-abbrev pub NewHas : Setting → TargetState → Option Event → Type 0
+abbrev pub NewHas : Setting → TargetStanding → Option Event → Type 0
 NewHas set (Is_up r) (Some e) = InstallsRequest set.accepts r (target_extended set.accepts r e)
 NewHas set state e = Unit {0}
 
 module _ (joins : SumsJoin) (spells : HeadersAreSpelled) (payloads : PayloadsAreBytes) (requests : RequestsAreSpelled) (set : Setting) (permits : AcceptsPermitted set.accepts) where
-  reached_has : (life : Life) (state : TargetState) (e : Option Event) → BringsBytes e → TargetTakes life state → HasLive state → TargetIsSound set life state → TargetHas state → TargetHas (reached set e state) × NewHas set state e
+  reached_has : (life : Life) (state : TargetStanding) (e : Option Event) → BringsBytes e → LifeTakesWhatCame life state → HasLive state → TargetIsSound set life state → TargetHas state → TargetHas (reached set e state) × NewHas set state e
   reached_has (Up first_port log) (Is_up r) None now takes live sound h = (h, tt)
   reached_has (Up first_port log) (Is_up r) (Some e) now (packets, blocks, last) live (fit, sound) h = target_step_requests requests set.accepts joins payloads log r e (now, fit) packets live sound h
   reached_has (Up first_port log) (Is_down active interrupted) e now takes live sound h = absurd takes
@@ -275,16 +275,16 @@ module _ (joins : SumsJoin) (spells : HeadersAreSpelled) (payloads : PayloadsAre
 
 -- ---- what is brought
 
-brought_if : (steps : List Step) (b : Bool) (state : TargetState) (after : StandingView) → IsAskedFor steps state after → BroughtIsAsked state (cond b None (Some after)) steps
+brought_if : (steps : List Step) (b : Bool) (state : TargetStanding) (after : StandingView) → IsAskedFor steps state after → BroughtIsAsked state (cond b None (Some after)) steps
 brought_if steps true state after asked = tt
 brought_if steps false state after asked = asked
 
-none_brought : (steps : List Step) (state : TargetState) (before after : StandingView) → after ≡ before → BroughtIsAsked state (changed before after) steps
+none_brought : (steps : List Step) (state : TargetStanding) (before after : StandingView) → after ≡ before → BroughtIsAsked state (changed before after) steps
 none_brought steps state before after same =
     subst (λ (b : Bool). BroughtIsAsked state (cond b None (Some after)) steps) (sym (eq-eqb before.sequence after.sequence (sym (ap (λ (x : StandingView). x.sequence) same)))) tt
 
 module _ (reads : RequestsAreRead) (set : Setting) (s : Step) (earlier : List Step) (entries : EntriesFit set.media) (sent : ArrivesAsSent set s earlier) where
-  step_asked : (state : TargetState) (e : Option Event) → target_at set earlier ≡ state → event_for sides.Target (posted_in earlier) s.given ≡ e → TargetStaysOrIsNew set state (reached set e state) → NewHas set state e
+  step_asked : (state : TargetStanding) (e : Option Event) → target_at set earlier ≡ state → event_for sides.Target (posted_in earlier) s.given ≡ e → TargetStaysOrIsNew set state (reached set e state) → NewHas set state e
       → BroughtIsAsked state (changed (active_in state) (active_in (reached set e state))) earlier
   step_asked (Is_up r) None up comes change has = none_brought earlier (Is_up r) r.active r.active refl
   step_asked (Is_up r) (Some e) up comes (inl same) has = none_brought earlier (Is_up r) r.active (target_extended set.accepts r e).active same

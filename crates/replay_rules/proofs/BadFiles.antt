@@ -5,10 +5,10 @@ use Rattle.std.proofs.lemmas.List.{length-map}
 use Rattle.std.proofs.lemmas.List.Concat.{flat_map-cons}
 use Rattle.std.proofs.lemmas.List.Elements.{All-head}
 use Rattle.field_grammar.specs.Answers.{answer}
-use Rattle.field_grammar.specs.ExactLaws.{answer-spelled, spelled_at_start}
+use Rattle.field_grammar.proofs.ExactLemmas.{answer-spelled, spelled_at_start}
 use Rattle.field_grammar.specs.Fields.{number_bytes}
-use Rattle.field_grammar.specs.NumberLaws.{length_number_bytes}
-use Rattle.field_grammar.specs.WrittenLaws.{at_most_each}
+use Rattle.field_grammar.proofs.NumberLemmas.{length_number_bytes}
+use Rattle.field_grammar.proofs.WrittenLemmas.{at_most_each}
 use Rattle.load_base.specs.Bytes.{AllGood}
 use Rattle.load_base.specs.Text.{IsText, is_printable}
 use Rattle.load_protocol_files.specs.declared.fault.FileFault.{FileFault}
@@ -19,14 +19,14 @@ use Rattle.load_protocol_files.specs.declared.lui.Lui.{Lui}
 use Rattle.load_protocol_files.specs.Files.{IsFileOf, file_fields}
 use Rattle.load_protocol_files.specs.Lci.{lci}
 use Rattle.load_protocol_files.specs.Lcl.{HardwareFits, HardwareView, InstalledFits, LclSpells, LclView, hardware_fields, installed_fields, lcl, lcl_fields}
-use Rattle.load_protocol_files.specs.LclLaws.{hardware_size, installed_size, lcl_size}
+use Rattle.load_protocol_files.specs.Laws.Lcl.{hardware_size, installed_size, lcl_size}
 use Rattle.load_protocol_files.specs.Lcs.{LcsFits, LcsSpells, lcs}
-use Rattle.load_protocol_files.specs.LcsLaws.{lcs_is_small}
+use Rattle.load_protocol_files.specs.Laws.Lcs.{lcs_is_small}
 use Rattle.disk_layout.specs.Contents.{entries_of, entry_of}
 use Rattle.disk_layout.specs.Holds.{Outline, StandingView, outline_of}
 use Rattle.load_protocol_files.specs.Lui.{lui}
 use Rattle.load_protocol_files.specs.Reply.{ReplyFits, reply_fields}
-use Rattle.load_protocol_files.specs.ReplyLaws.{reply_is_small}
+use Rattle.load_protocol_files.specs.Laws.Replies.{reply_is_small}
 use Rattle.exchange_trace.specs.Logs.{loader_log}
 use Rattle.exchange_trace.specs.Steps.{Step}
 use Rattle.transfer_end.specs.OtherEnds.{MovesStayFair, TellsLength, file_sent, is_asking, is_receiving}
@@ -34,11 +34,11 @@ use Rattle.transfer_end.specs.Transfers.{Reads, Role, ServesRead, ServesWrite, T
 use Rattle.session_rules.specs.declared.outcome.FileKind.{FileKind}
 use Rattle.session_rules.specs.declared.outcome.FileKind.TheVariants as kinds
 use Rattle.session_rules.specs.declared.outcome.Outcome.TheVariants.{BadFile, Completed, Denied}
-use Rattle.session_rules.specs.BufferLaws.{SumsJoin}
+use Rattle.session_rules.proofs.BufferLemmas.{SumsJoin}
 use Rattle.session_rules.specs.Buffers.{buffered}
 use Rattle.session_rules.specs.Loader.{Start}
 use Rattle.session_rules.specs.LoaderLog.{SessionLog}
-use Rattle.session_rules.specs.LoaderRoleLaws.{loader_roles_fit}
+use Rattle.session_rules.proofs.LoaderRoleLemmas.{loader_roles_fit}
 use Rattle.session_rules.specs.LoaderRoles.{IsOfLoaderRow, LoaderLiveFits, LoaderRoleFits, TakesFile, WritesLur, loader_row}
 use Rattle.session_rules.specs.LoaderRows.{Comes_to, Goes_on, LoaderRow, Reads_lci, Reads_lui, Serves_files, Takes_lcl, Takes_lcs, Takes_lus, Writes_lur, file_turn, lci_turn, lcl_turn, lcs_turn, lui_turn}
 use Rattle.session_rules.specs.Reports.{accepting_lui, denying_lui, lci_file, lcl_file, lcl_of, lcs_file, listed_part}
@@ -46,9 +46,9 @@ use Rattle.session_rules.specs.FileNames.{file_name}
 use Rattle.session_rules.specs.TargetRows as Rows
 use Rattle.session_rules.specs.TargetRows.{RowView}
 use Rattle.accept_rules.specs.Permissions.{AcceptsPermitted}
-use Rattle.session_rules.specs.ReadFileLaws.{RequestsAreSpelled}
-use Rattle.session_rules.specs.SoundnessLaws.{HeadersAreSpelled}
-use Rattle.session_rules.specs.SoundLogLaws.{PayloadsAreBytes}
+use Rattle.session_rules.proofs.ReadFileLemmas.{RequestsAreSpelled}
+use Rattle.session_rules.proofs.SoundnessLemmas.{HeadersAreSpelled}
+use Rattle.session_rules.proofs.SoundLogLemmas.{PayloadsAreBytes}
 use Rattle.replay_rules.specs.BothEnds.{Setting, loader_at, target_at}
 use Rattle.replay_rules.specs.Histories.{active_at}
 use Rattle.replay_rules.specs.MediaTraces.{LengthsAreTold}

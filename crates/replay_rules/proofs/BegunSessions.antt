@@ -14,15 +14,15 @@ use Rattle.transfer_end.specs.Transfers.{Reads, Role, ServesRead, ServesWrite, T
 use Rattle.accept_rules.specs.Permissions.{Accepts}
 use Rattle.session_rules.specs.declared.outcome.FileKind.{FileKind}
 use Rattle.session_rules.specs.declared.outcome.FileKind.TheVariants.{Lci, Lui}
-use Rattle.session_rules.specs.BufferLaws.{SumsJoin}
+use Rattle.session_rules.proofs.BufferLemmas.{SumsJoin}
 use Rattle.session_rules.specs.LoaderLog.{newest}
 use Rattle.session_rules.specs.Target.{Begins, Continues, Ends, TargetChange, Turns, Turns_without_port, target_decision}
-use Rattle.session_rules.specs.TargetLaws.{FitsChange, HasTurned, after, decision_fits, seen_row, turned_row, turned_view}
+use Rattle.session_rules.proofs.TargetLemmas.{FitsChange, HasTurned, after, decision_fits, seen_row, turned_row, turned_view}
 use Rattle.session_rules.specs.TargetLog.{TargetReading, TargetSessionLog, log_turned, reading_turned, target_extended, target_reading_changed, target_view, with_done}
 use Rattle.session_rules.specs.TargetRows.{Arriving, Awaits_lur, Breaks_off, Gives_denial, Gives_lci, Gives_lui, Judges, Over, Passes, Reads_file, Refuses_request, Requests, RowMove, RowView, Writes_completion, Writes_lcl, Writes_lcs, Writes_progress, Writes_ready, Writes_stop, arriving_of, first_row, placed_view_if, row_after, row_view, view_judged, view_judged_in, view_moved}
 use Rattle.session_rules.specs.Uploads.{Accepts_file, Accepts_header, Complete, Judgement, More_files, Next, Next_load, OpenLoadView, Stops_for, UploadView}
-use Rattle.replay_rules.specs.BothEnds.{Is_down, Is_up, Setting, TargetState, come_up, gone_down, noted, reached, target_at}
-use Rattle.replay_rules.specs.TieLaws.{HasLive, target_is_live}
+use Rattle.replay_rules.specs.BothEnds.{Is_down, Is_up, Setting, TargetStanding, come_up, gone_down, noted, reached, target_at}
+use Rattle.replay_rules.proofs.TieLemmas.{HasLive, target_is_live}
 use Rattle.replay_rules.proofs.PlacedRows.{ComesIn, IsPlaced, SessionPlaced, StatePlaced, move_comes, of_role, over_heard, state_placed}
 use Rattle.replay_rules.proofs.TargetRoles.{IsGiving, IsOfTargetRow, IsTaking}
 
@@ -240,27 +240,27 @@ module _ (joins : SumsJoin) (accepts : Accepts) where
 
 -- ---- a trace
 
-abbrev pub StateBegun : TargetState → Type 0
+abbrev pub StateBegun : TargetStanding → Type 0
 StateBegun (Is_up r) = SessionBegun r.end r.live
 StateBegun (Is_down active interrupted) = Unit {0}
 
-gone_begun : (before after : TargetState) → StateBegun (gone_down before after)
+gone_begun : (before after : TargetStanding) → StateBegun (gone_down before after)
 gone_begun (Is_up r) (Is_up s) = tt
 gone_begun (Is_up r) (Is_down active interrupted) = tt
 gone_begun (Is_down active interrupted) after = tt
 
-come_begun : (first_port sequence : _) (state : TargetState) → StateBegun state → StateBegun (come_up first_port sequence state)
+come_begun : (first_port sequence : _) (state : TargetStanding) → StateBegun state → StateBegun (come_up first_port sequence state)
 come_begun first_port sequence (Is_up r) h = h
 come_begun first_port sequence (Is_down active interrupted) h = tt
 
-noted_begun : (notes : List Note) (before after : TargetState) → StateBegun after → StateBegun (noted notes before after)
+noted_begun : (notes : List Note) (before after : TargetStanding) → StateBegun after → StateBegun (noted notes before after)
 noted_begun [] before after h = h
 noted_begun (Went_down ∷ notes) before after h = noted_begun notes (gone_down before after) (gone_down before after) (gone_begun before after)
 noted_begun (Came_up first_port sequence ∷ notes) before after h =
     let up = come_up first_port sequence (gone_down before after) in noted_begun notes up up (come_begun first_port sequence (gone_down before after) (gone_begun before after))
 noted_begun (Boot_refused fault ∷ notes) before after h = noted_begun notes (gone_down before after) (gone_down before after) (gone_begun before after)
 
-pub reached_begun : (set : Setting) → SumsJoin → (e : Option Event) (state : TargetState) → HasLive state → StatePlaced state → StateBegun state → StateBegun (reached set e state)
+pub reached_begun : (set : Setting) → SumsJoin → (e : Option Event) (state : TargetStanding) → HasLive state → StatePlaced state → StateBegun state → StateBegun (reached set e state)
 reached_begun set joins None (Is_up r) live placed h = h
 reached_begun set joins (Some e) (Is_up r) live placed h = extended_begun joins set.accepts r e live placed h
 reached_begun set joins None (Is_down active interrupted) live placed h = tt

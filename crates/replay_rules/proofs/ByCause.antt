@@ -21,16 +21,16 @@ use Rattle.session_rules.specs.declared.outcome.FileKind.{FileKind}
 use Rattle.session_rules.specs.declared.outcome.Outcome.{Outcome}
 use Rattle.session_rules.specs.declared.outcome.Outcome.TheVariants.{PortsSpent}
 use Rattle.session_rules.specs.declared.outcome.SessionKind.TheVariants.{Info, Upload}
-use Rattle.session_rules.specs.BufferLaws.{buffered_on}
+use Rattle.session_rules.proofs.BufferLemmas.{buffered_on}
 use Rattle.session_rules.specs.Buffers.{Buffer, buffered, buffered_more}
 use Rattle.session_rules.specs.FileNames.{file_name}
 use Rattle.session_rules.specs.Loader.{Advances, Begins, Begins_over, Continues, EndedSession, Ends, LoaderChange, LoaderDecision, LoaderSession, Start, answer_decision, begin_with, got_decision, listed_upload, loader_decision, next_decision, packet_decision, read_decision, request_decision, row_request, take_request, tick_decision, turn_decision, write_decision}
 use Rattle.session_rules.specs.LoaderLog.{LoaderReading, SessionLog, loader_reading, loader_reading_changed, loader_view, session_view}
 use Rattle.session_rules.specs.LoaderRoles.{loader_row}
-use Rattle.session_rules.specs.LoaderRows.{Comes_to, Goes_on, Turn, file_turn, first_row, kind_taken, row_after, serves_files}
+use Rattle.session_rules.specs.LoaderRows.{Comes_to, Goes_on, RowTurn, file_turn, first_row, kind_taken, row_after, serves_files}
 use Rattle.session_rules.specs.MediaFiles.{Media, wanted_of}
 use Rattle.replay_rules.specs.BothEnds.{Setting, loader_at}
-use Rattle.replay_rules.specs.Outcomes.{AllEndByCause, EndsByCause, HasCause, IsStart, OutcomesHaveCauses, gave_up, no_port, not_on_media, of_error, of_file, too_many, was_replaced}
+use Rattle.replay_rules.specs.Outcomes.{AllEndByCause, EndsByCause, OutcomeHasCause, IsStart, OutcomesHaveCauses, gave_up, no_port, not_on_media, of_error, of_file, too_many, was_replaced}
 
 -- ---- what a change asks of its event
 
@@ -39,7 +39,7 @@ module _ (media : Media) (end : Reading) (live : Option SessionLog) (ended : Lis
   r = record { end = end; live = live; ended = ended }
 
   abbrev Cause : Outcome → Type 0
-  Cause outcome = HasCause media (record { end = end; live = live; ended = ended }) e outcome
+  Cause outcome = OutcomeHasCause media (record { end = end; live = live; ended = ended }) e outcome
 
   abbrev pub ChangeHasCause : LoaderChange → Type 0
   ChangeHasCause (Ends outcome more) = Cause outcome
@@ -96,7 +96,7 @@ module _ (media : Media) (end : Reading) (live : Option SessionLog) (ended : Lis
   next_caused moves more None = tt
   next_caused moves more (Some role) = caused_if (has_port (end_view end)) _ _ (λ has. tt) (λ none. spent none)
 
-  turn_caused : (s : LoaderSession) (moves : List Move) (more : List ℕ) (turn : Turn) → ((outcome : Outcome) → turn ≡ Comes_to outcome → Cause outcome) → Caused (turn_decision (end_view end) s moves more turn)
+  turn_caused : (s : LoaderSession) (moves : List Move) (more : List ℕ) (turn : RowTurn) → ((outcome : Outcome) → turn ≡ Comes_to outcome → Cause outcome) → Caused (turn_decision (end_view end) s moves more turn)
   turn_caused s moves more Goes_on comes = next_caused moves more (row_request end.asks_size s.start (row_after s.row))
   turn_caused s moves more (Comes_to outcome) comes = comes outcome refl
 
@@ -113,7 +113,7 @@ module _ (media : Media) (first_port : ℕ) (past : List Transfer) (ticks : ℕ)
   CausedHere end d = Caused media end (Some s) ended (Gets from to bytes) d
 
   whole : (t : Transfer) (b : List ℕ) (outcome : Outcome) → end_answer (end_of t.role t.got) p ≡ TakesLast b → file_turn (loader_row s) (buffered_more (buffered (arrived_of t)) b) ≡ Comes_to outcome
-      → HasCause media (record { end = with_live (Some t); live = Some s; ended = ended }) (Gets from to bytes) outcome
+      → OutcomeHasCause media (record { end = with_live (Some t); live = Some s; ended = ended }) (Gets from to bytes) outcome
   whole t b outcome takes turn = of_file outcome (record {
     session = s;
     live = refl;
@@ -183,7 +183,7 @@ module _ (media : Media) (end : Reading) (ended : List EndedSession) where
 pub record EndWithCauses (media : Media) (r : LoaderReading) (e : Event) (then : List EndedSession) : Type 0 where
   pub ends : List EndedSession
   pub split : then ≡ ends ++ r.ended
-  pub causes : AllByRecursion (λ (session : EndedSession). HasCause media r e session.outcome) ends
+  pub causes : AllByRecursion (λ (session : EndedSession). OutcomeHasCause media r e session.outcome) ends
 
 changed_ends : (media : Media) (end then : Reading) (live : Option SessionLog) (ended : List EndedSession) (e : Event) (change : LoaderChange) → ChangeHasCause media end live ended e change
     → EndWithCauses media (record { end = end; live = live; ended = ended }) e (loader_reading_changed then (record { end = end; live = live; ended = ended }) change).ended
@@ -205,7 +205,7 @@ event_ends media log e =
 -- ---- in a run
 
 module _ (set : Setting) where
-  mapped : (s : Step) (earlier : List Step) (e : Event) → event_for sides.Loader (posted_in earlier) s.given ≡ Some e → (ends : List EndedSession) → AllByRecursion (λ (session : EndedSession). HasCause set.media (loader_at set earlier) e session.outcome) ends
+  mapped : (s : Step) (earlier : List Step) (e : Event) → event_for sides.Loader (posted_in earlier) s.given ≡ Some e → (ends : List EndedSession) → AllByRecursion (λ (session : EndedSession). OutcomeHasCause set.media (loader_at set earlier) e session.outcome) ends
       → AllByRecursion (EndsByCause set s earlier) ends
   mapped s earlier e comes [] causes = tt
   mapped s earlier e comes (session ∷ ends) (cause, causes) = (record { event = e; reaches = comes; cause = cause }, mapped s earlier e comes ends causes)

@@ -9,13 +9,13 @@ use Rattle.exchange_trace.specs.Logs.{Event, event_for}
 use Rattle.exchange_trace.specs.Posts.{first_port_after, posted_in}
 use Rattle.exchange_trace.specs.Steps.{Note, Step}
 use Rattle.transfer_end.specs.OtherEnds.{Among, MovesStayFair}
-use Rattle.session_rules.specs.BufferLaws.{SumsJoin}
-use Rattle.session_rules.specs.ReadFileLaws.{RequestsAreSpelled}
-use Rattle.session_rules.specs.SoundLogLaws.{PayloadsAreBytes}
-use Rattle.session_rules.specs.SoundnessLaws.{HeadersAreSpelled}
+use Rattle.session_rules.proofs.BufferLemmas.{SumsJoin}
+use Rattle.session_rules.proofs.ReadFileLemmas.{RequestsAreSpelled}
+use Rattle.session_rules.proofs.SoundLogLemmas.{PayloadsAreBytes}
+use Rattle.session_rules.proofs.SoundnessLemmas.{HeadersAreSpelled}
 use Rattle.session_rules.specs.TargetLog.{TargetReading, target_extended}
-use Rattle.replay_rules.specs.BothEnds.{Is_down, Is_up, Setting, TargetState, changed, come_up, gone_down, noted, reached, settled, target_at}
-use Rattle.replay_rules.specs.ChangeLaws.{changes_are_new}
+use Rattle.replay_rules.specs.BothEnds.{Is_down, Is_up, Setting, TargetStanding, changed, come_up, gone_down, noted, reached, settled, target_at}
+use Rattle.replay_rules.proofs.ChangeLemmas.{changes_are_new}
 use Rattle.replay_rules.specs.Changes.{AllStayOrAreNew, TargetStaysOrIsNew}
 use Rattle.replay_rules.specs.Due.{AllNoted, goes_down, is_up}
 use Rattle.replay_rules.specs.Histories.{active_at, active_by, active_in, brings, members_of, with_member}
@@ -58,7 +58,7 @@ member_then before after new members (inr next) h =
 -- ---- what is active from one step to the next
 
 -- what an interrupted installation would have made active has the next sequence number
-abbrev DownFits : TargetState → Type 0
+abbrev DownFits : TargetStanding → Type 0
 DownFits (Is_up r) = Unit {0}
 DownFits (Is_down active None) = Unit {0}
 DownFits (Is_down active (Some new)) = new.sequence ≡ active.sequence + 1
@@ -81,24 +81,24 @@ by_next set r e (inl same) = inl same
 by_next set r e (inr new) = inr (ap (λ (x : StandingView). x.sequence) new.next)
 
 -- what holds of the target from before a step to after it
-abbrev IsNextAndFits : (before after : TargetState) → Type 0
+abbrev IsNextAndFits : (before after : TargetStanding) → Type 0
 IsNextAndFits before after = IsNext (active_in before) (active_in after) × DownFits after
 
-gone_on : (before after : TargetState) → IsNext (active_in before) (active_in after) → DownFits before → is_up before ≡ is_up after → IsNextAndFits before (gone_down before after)
+gone_on : (before after : TargetStanding) → IsNext (active_in before) (active_in after) → DownFits before → is_up before ≡ is_up after → IsNextAndFits before (gone_down before after)
 gone_on (Is_up r) (Is_up then) next fits same = (inl refl, changed_fits r.active then.active next)
 gone_on (Is_up r) (Is_down active interrupted) next fits same = absurd (let wrong : true ≡ false = same in cc)
 gone_on (Is_down active interrupted) after next fits same = (inl refl, fits)
 
-come_on : (first_port sequence : ℕ) (state : TargetState) → DownFits state → IsNextAndFits state (come_up first_port sequence state)
+come_on : (first_port sequence : ℕ) (state : TargetStanding) → DownFits state → IsNextAndFits state (come_up first_port sequence state)
 come_on first_port sequence (Is_up r) fits = (inl refl, tt)
 come_on first_port sequence (Is_down active interrupted) fits = (settled_next sequence active interrupted fits, tt)
 
 -- the active configuration of a target that is brought down stays
-down_is : (state : TargetState) → active_in (gone_down state state) ≡ active_in state
+down_is : (state : TargetStanding) → active_in (gone_down state state) ≡ active_in state
 down_is (Is_up r) = refl
 down_is (Is_down active interrupted) = refl
 
-reached_on : (set : Setting) (state : TargetState) (e : Option Event) → TargetStaysOrIsNew set state (reached set e state) → DownFits state → IsNextAndFits state (reached set e state) × (is_up state ≡ is_up (reached set e state))
+reached_on : (set : Setting) (state : TargetStanding) (e : Option Event) → TargetStaysOrIsNew set state (reached set e state) → DownFits state → IsNextAndFits state (reached set e state) × (is_up state ≡ is_up (reached set e state))
 reached_on set (Is_up r) None stays fits = ((inl refl, tt), refl)
 reached_on set (Is_up r) (Some e) stays fits = ((by_next set r e stays, tt), refl)
 reached_on set (Is_down active interrupted) None stays fits = ((inl refl, fits), refl)
@@ -110,10 +110,10 @@ next_from a b c same next = subst (λ (x : StandingView). IsNext x c) same next
 at_boot : (posted : List DatagramView) (h : HappeningView) → h ≡ Booted → event_for sides.Target posted h ≡ None
 at_boot posted h boots = ap (λ (x : HappeningView). event_for sides.Target posted x) boots
 
-reached_at_boot : (set : Setting) (posted : List DatagramView) (h : HappeningView) (state : TargetState) → h ≡ Booted → reached set (event_for sides.Target posted h) state ≡ state
+reached_at_boot : (set : Setting) (posted : List DatagramView) (h : HappeningView) (state : TargetStanding) → h ≡ Booted → reached set (event_for sides.Target posted h) state ≡ state
 reached_at_boot set posted h state boots = ap (λ (x : Option Event). reached set x state) (at_boot posted h boots) ∙ by state
   where
-    by : (state : TargetState) → reached set None state ≡ state
+    by : (state : TargetStanding) → reached set None state ≡ state
     by (Is_up r) = refl
     by (Is_down active interrupted) = refl
 
@@ -129,7 +129,7 @@ module _ (set : Setting) where
       let down = gone_on (target_at set earlier) (reached set (event_for sides.Target (posted_in earlier) s.given) (target_at set earlier)) on.0 fits same in
       let then = come_on first_port sequence (gone_down (target_at set earlier) (reached set (event_for sides.Target (posted_in earlier) s.given) (target_at set earlier))) down.1 in
       let is : active_in (gone_down (target_at set earlier) (reached set (event_for sides.Target (posted_in earlier) s.given) (target_at set earlier))) ≡ active_in (target_at set earlier) =
-      ap (λ (x : TargetState). active_in (gone_down (target_at set earlier) x)) (reached_at_boot set (posted_in earlier) s.given (target_at set earlier) boots) ∙ down_is (target_at set earlier) in
+      ap (λ (x : TargetStanding). active_in (gone_down (target_at set earlier) x)) (reached_at_boot set (posted_in earlier) s.given (target_at set earlier) boots) ∙ down_is (target_at set earlier) in
       (next_from _ _ _ is then.0, then.1)
   step_on s earlier notes (was_refused fault boots) stays fits =
       let (on, same) = reached_on set (target_at set earlier) (event_for sides.Target (posted_in earlier) s.given) stays fits in
@@ -188,7 +188,7 @@ module _ (set : Setting) where
       (trace_step x (since ++ s ∷ earlier) noted_so stays (down_fits (since ++ s ∷ earlier) noted_so.1 stays.1)).0 (member_since since s earlier new noted_so.1 stays.1 up brought)
 
   -- what is recovered at the end
-  last_next : (state : TargetState) (standing : Option StandingView) → DownFits state → IsNext (active_in state) (active_by state standing)
+  last_next : (state : TargetStanding) (standing : Option StandingView) → DownFits state → IsNext (active_in state) (active_by state standing)
   last_next (Is_up r) standing fits = inl refl
   last_next (Is_down active interrupted) None fits = inl refl
   last_next (Is_down active interrupted) (Some s) fits = settled_next s.sequence active interrupted fits

@@ -11,7 +11,7 @@ use Rattle.exchange_trace.specs.Happenings.{DatagramView, HappeningView}
 use Rattle.exchange_trace.specs.Logs.{Event, Gets, Learns, Starts_info, Starts_upload, Ticks, event_for}
 use Rattle.exchange_trace.specs.Posts.{posted_in}
 use Rattle.exchange_trace.specs.Steps.{Note, Step}
-use Rattle.transfer_end.specs.CameLaws.{all_mapped}
+use Rattle.transfer_end.proofs.CameLemmas.{all_mapped}
 use Rattle.transfer_end.specs.Moves.{Asks, Asks_size, Hears, Move, Recalls, Refuses, Repeats, Serves, Stops, past_with, reading_after, reading_answered, reading_unchanged, readings_after}
 use Rattle.transfer_end.specs.OtherEnds.{Among, MoveHasRole, all_of}
 use Rattle.transfer_end.specs.Packets.{belongs, has_port, heard_answer, is_busy, is_fresh, may_repeat, packet_in, transfer_moves}
@@ -22,10 +22,10 @@ use Rattle.accept_rules.specs.Permissions.{Accepts}
 use Rattle.session_rules.specs.declared.outcome.FileKind.{FileKind}
 use Rattle.session_rules.specs.declared.outcome.FileKind.TheVariants as kinds
 use Rattle.session_rules.specs.Target as target
-use Rattle.session_rules.specs.TargetLaws.{end_stays}
+use Rattle.session_rules.proofs.TargetLemmas.{end_stays}
 use Rattle.session_rules.specs.TargetLog.{TargetReading, target_extended, target_view}
 use Rattle.session_rules.specs.TargetRows.{Awaits_lur, RowMove, RowView, row_move, view_moved, with_bytes}
-use Rattle.replay_rules.specs.BothEnds.{Is_down, Is_up, Setting, TargetState, reached, target_at}
+use Rattle.replay_rules.specs.BothEnds.{Is_down, Is_up, Setting, TargetStanding, reached, target_at}
 use Rattle.replay_rules.specs.OtherEndTraces.{former_at, target_transfers, transfers_of}
 use Rattle.replay_rules.proofs.ListedTraces.{one_noted}
 
@@ -246,7 +246,7 @@ target_begins_last accepts v (Starts_upload hw pos parts) = tt
 pub newest_then : (set : Setting) (given : HappeningView) (posts : List DatagramView) (steps : List Step) (r : TargetReading) (e : Event) (t : Transfer) → target_at set steps ≡ Is_up r → event_for sides.Target (posted_in steps) given ≡ Some e → (target_extended set.accepts r e).end.live ≡ Some t
     → target_transfers set (record { given = given; posts = posts; notes = [] }) steps ≡ t ∷ ((target_extended set.accepts r e).end.past ++ former_at set steps)
 newest_then set given posts steps r e t up comes live =
-    ap (λ (x : Option Event). transfers_of (reached set x (target_at set steps)) ++ former_at set steps) comes ∙ ap (λ (state : TargetState). transfers_of (reached set (Some e) state) ++ former_at set steps) up
+    ap (λ (x : Option Event). transfers_of (reached set x (target_at set steps)) ++ former_at set steps) comes ∙ ap (λ (state : TargetStanding). transfers_of (reached set (Some e) state) ++ former_at set steps) up
     ∙ ap (λ (x : Option Transfer). past_with x (target_extended set.accepts r e).end.past ++ former_at set steps) live
 
 -- What holds of all transfers of the target and those before them, where steps keep it, and where it holds of what begins in a
@@ -270,7 +270,7 @@ module _ (set : Setting) (Over : List Step → Role → List Transfer → Type 0
       (subst (λ (x : Reading). AllByRecursion (MoveHasRole (NewOver (Over (s ∷ steps)) (former_at set steps) x)) d.moves) is (begins given posts steps r e up comes fact)))
       (stays_over s steps (all_of r.end (former_at set steps)) all))
 
-  reached_over : (given : HappeningView) (posts : List DatagramView) (steps : List Step) (state : TargetState) (e : Option Event) → target_at set steps ≡ state → event_for sides.Target (posted_in steps) given ≡ e → Fact (record { given = given; posts = posts; notes = [] } ∷ steps)
+  reached_over : (given : HappeningView) (posts : List DatagramView) (steps : List Step) (state : TargetStanding) (e : Option Event) → target_at set steps ≡ state → event_for sides.Target (posted_in steps) given ≡ e → Fact (record { given = given; posts = posts; notes = [] } ∷ steps)
       → AllOver (Over steps) (transfers_of state ++ former_at set steps) → AllOver (Over (record { given = given; posts = posts; notes = [] } ∷ steps)) (transfers_of (reached set e state) ++ former_at set steps)
   reached_over given posts steps (Is_up r) (Some e) up comes fact all = up_over given posts steps r e up comes fact all
   reached_over given posts steps (Is_up r) None up comes fact all = stays_over (record { given = given; posts = posts; notes = [] }) steps _ all

@@ -10,15 +10,15 @@ use Rattle.session_rules.specs.Loader.{Advances, Begins, Begins_over, Continues,
 use Rattle.session_rules.specs.LoaderLog.{LoaderReading, SessionLog, loader_reading, loader_reading_changed, loader_view}
 use Rattle.session_rules.specs.MediaFiles.{Media}
 use Rattle.replay_rules.specs.BothEnds.{Setting, loader_at}
-use Rattle.replay_rules.specs.Causes.{EndedInStep, IsOfFile, SessionsEndInSteps}
+use Rattle.replay_rules.specs.Causes.{EndedInStep, IsOutcomeOfFile, SessionsEndInSteps}
 use Rattle.replay_rules.proofs.FileEnds.{FitsFile, decision_fits}
 
 -- ---- what an event ends
 
-module _ (session : EndedSession) (of_file : IsOfFile session.outcome) where
+module _ (session : EndedSession) (of_file : IsOutcomeOfFile session.outcome) where
   -- a session whose outcome comes from no file is another
-  other : (A : Type 0) (x : EndedSession) → (IsOfFile x.outcome → ⊥) → x ≡ session → A
-  other A x not is = absurd (not (subst (λ (y : EndedSession). IsOfFile y.outcome) (sym is) of_file))
+  other : (A : Type 0) (x : EndedSession) → (IsOutcomeOfFile x.outcome → ⊥) → x ≡ session → A
+  other A x not is = absurd (not (subst (λ (y : EndedSession). IsOutcomeOfFile y.outcome) (sym is) of_file))
 
   -- it stands here among those that ended, the newest first
   abbrev StandsIn : (older ended : List EndedSession) → Type 0
@@ -36,7 +36,7 @@ module _ (session : EndedSession) (of_file : IsOfFile session.outcome) where
       → EndsNow older r.ended (loader_reading_changed end r change).ended
   by_change end r moves change older fits stands = cases r.live change fits stands
     where
-      replaced : (s : SessionLog) (x : EndedSession) → (IsOfFile x.outcome → ⊥) → StandsIn older (x ∷ r.ended) → StandsIn older r.ended
+      replaced : (s : SessionLog) (x : EndedSession) → (IsOutcomeOfFile x.outcome → ⊥) → StandsIn older (x ∷ r.ended) → StandsIn older r.ended
       replaced s x not (newer, is) = elim (one_more older r.ended x newer is) [ inl before ↦ before | inr now ↦ other (StandsIn older r.ended) x not now.0 ]
 
       cases : (live : Option SessionLog) (change : LoaderChange) → FitsFile r.end live moves change → StandsIn older (loader_reading_changed end (record { end = r.end; live = live; ended = r.ended }) change).ended

@@ -21,15 +21,15 @@ use Rattle.session_rules.specs.declared.outcome.SessionKind.TheVariants.{Info, U
 use Rattle.session_rules.specs.Buffers.{buffered, buffered_more}
 use Rattle.session_rules.specs.FileNames.{file_name}
 use Rattle.session_rules.specs.Loader.{Advances, Begins, Begins_over, Continues, EndedSession, Ends, LoaderChange, LoaderDecision, LoaderSession, Start, answer_decision, begin_with, doing, ended_as, got_decision, listed_upload, loader_decision, next_decision, packet_decision, read_decision, request_decision, row_request, take_request, tick_decision, turn_decision, write_decision}
-use Rattle.session_rules.specs.LoaderLaws.{end_stays}
+use Rattle.session_rules.proofs.LoaderLemmas.{end_stays}
 use Rattle.session_rules.specs.LoaderLog.{LoaderReading, SessionLog, loader_extended, loader_reading, loader_reading_changed, loader_view, session_view}
-use Rattle.session_rules.specs.LoaderRoleLaws.{head_is, longer, longer_two}
+use Rattle.session_rules.proofs.LoaderRoleLemmas.{head_is, longer, longer_two}
 use Rattle.session_rules.specs.LoaderRoles.{EndsWithLive, loader_row}
-use Rattle.session_rules.specs.LoaderRows.{Comes_to, Goes_on, LoaderRow, Reads_lci, Reads_lui, Serves_files, Takes_lcl, Takes_lcs, Takes_lus, Turn, Writes_lur, file_turn, first_row, kind_taken, row_after, serves_files}
+use Rattle.session_rules.specs.LoaderRows.{Comes_to, Goes_on, LoaderRow, Reads_lci, Reads_lui, Serves_files, Takes_lcl, Takes_lcs, Takes_lus, RowTurn, Writes_lur, file_turn, first_row, kind_taken, row_after, serves_files}
 use Rattle.session_rules.specs.MediaFiles.{Media, wanted_of}
-use Rattle.session_rules.specs.SessionLaws.{begun_by, decision_begins}
+use Rattle.session_rules.proofs.SessionLemmas.{begun_by, decision_begins}
 use Rattle.session_rules.specs.Sessions.{started_by}
-use Rattle.replay_rules.specs.Causes.{IsOfFile}
+use Rattle.replay_rules.specs.Causes.{IsOutcomeOfFile}
 use Rattle.replay_rules.proofs.TargetRoles.{IsReading}
 
 -- the transfer that was live took its file whole, and the session comes to this by it
@@ -45,7 +45,7 @@ pub record EndsByTurn (end : Reading) (s : SessionLog) (moves : List Move) (outc
 
 abbrev pub EndsFor : Reading → Option SessionLog → List Move → Outcome → List ℕ → Type 0
 EndsFor end None moves outcome more = Unit {0}
-EndsFor end (Some s) moves outcome more = IsOfFile outcome → EndsByTurn end s moves outcome more
+EndsFor end (Some s) moves outcome more = IsOutcomeOfFile outcome → EndsByTurn end s moves outcome more
 
 -- in its first row the loader reads
 abbrev pub LiveReads : LoaderRow → Option Transfer → Type 0
@@ -60,7 +60,7 @@ KeepsReading end (Some s) moves = LiveReads (loader_row s) end.live → LiveRead
 
 abbrev pub FitsFile : Reading → Option SessionLog → List Move → LoaderChange → Type 0
 FitsFile end live moves (Ends outcome more) = EndsFor end live moves outcome more
-FitsFile end live moves (Begins_over kind outcome) = IsOfFile outcome → ⊥
+FitsFile end live moves (Begins_over kind outcome) = IsOutcomeOfFile outcome → ⊥
 FitsFile end live moves (Continues more) = KeepsReading end live moves
 FitsFile end live moves Advances = Unit {0}
 FitsFile end live moves (Begins start) = LiveReads (first_row start.kind) (readings_after sides.Loader end moves).live
@@ -179,7 +179,7 @@ next_fits end s moves more None = tt
 next_fits end s moves more (Some role) = fits_if end (Some s) (has_port (end_view end)) _ _ tt (λ h. absurd h)
 
 -- the file of the transfer that was live is whole
-turn_fits : (end : Reading) (s : SessionLog) (live : Transfer) (from : ℕ) (p : PacketView) (moves : List Move) (more : List ℕ) (turn : Turn) → end.live ≡ Some live → end_answer (end_in live) p ≡ TakesLast more
+turn_fits : (end : Reading) (s : SessionLog) (live : Transfer) (from : ℕ) (p : PacketView) (moves : List Move) (more : List ℕ) (turn : RowTurn) → end.live ≡ Some live → end_answer (end_in live) p ≡ TakesLast more
     → (after end moves).past ≡ with_packet live from p ∷ end.past → (after end moves).live ≡ None → file_turn (loader_row s) (buffered_more (buffered (arriving_in end.live)) more) ≡ turn → Fits end (Some s) (turn_decision (end_view end) (kept s end) moves more turn)
 turn_fits end s live from p moves more Goes_on was last one free is = next_fits end s moves more (row_request (end_view end).asks_size s.start (row_after (loader_row s)))
 turn_fits end s live from p moves more (Comes_to outcome) was last one free is = λ h. record {
@@ -276,7 +276,7 @@ pub record EndedByFile (media : Media) (r : LoaderReading) (e : Event) (outcome 
   pub last : end_answer (end_in ends.live) ends.packet ≡ TakesLast more
   pub turn : file_turn (loader_row ends.session) (buffered_more (buffered (arriving_in r.end.live)) more) ≡ Comes_to outcome
 
-module _ (media : Media) (r : LoaderReading) (e : Event) (session : EndedSession) (of_file : IsOfFile session.outcome) where
+module _ (media : Media) (r : LoaderReading) (e : Event) (session : EndedSession) (of_file : IsOutcomeOfFile session.outcome) where
   abbrev moves_now : List Move
   moves_now = (loader_decision media (loader_view r) e).moves
 
@@ -301,7 +301,7 @@ module _ (media : Media) (r : LoaderReading) (e : Event) (session : EndedSession
   }
 
   not_replaced : (s : SessionLog) (bytes : List ℕ) → ended_as s.start.kind Replaced bytes ≡ session → ⊥
-  not_replaced s bytes is = subst IsOfFile (sym (ap (λ (x : EndedSession). x.outcome) is)) of_file
+  not_replaced s bytes is = subst IsOutcomeOfFile (sym (ap (λ (x : EndedSession). x.outcome) is)) of_file
 
   by_change : (live : Option SessionLog) (change : LoaderChange) → r.live ≡ live → FitsFile r.end live moves_now change → begun_by change ≡ started_by e → (loader_extended media r e).end ≡ after r.end moves_now
       → (loader_reading_changed (after r.end moves_now) (record { end = r.end; live = live; ended = r.ended }) change).ended ≡ session ∷ r.ended → EndedByFile media r e session.outcome
@@ -310,13 +310,13 @@ module _ (media : Media) (r : LoaderReading) (e : Event) (session : EndedSession
   by_change None (Ends outcome more) was fits none end grows = absurd (longer r.ended session grows)
   by_change (Some s) (Ends outcome more) was fits none end grows =
       let is : outcome ≡ session.outcome = ap (λ (x : EndedSession). x.outcome) (head_is r.ended (ended_as s.start.kind outcome (buffered_more (buffered (arriving_in r.end.live)) more).prefix) session grows) in
-      subst (λ (x : Outcome). EndedByFile media r e x) is (by_turn s outcome more was (fits (subst IsOfFile (sym is) of_file)) none end)
+      subst (λ (x : Outcome). EndedByFile media r e x) is (by_turn s outcome more was (fits (subst IsOutcomeOfFile (sym is) of_file)) none end)
   by_change None (Begins start) was fits none end grows = absurd (longer r.ended session grows)
   by_change (Some s) (Begins start) was fits none end grows = absurd (not_replaced s _ (head_is r.ended _ session grows))
-  by_change None (Begins_over kind outcome) was fits none end grows = absurd (fits (subst IsOfFile (sym (ap (λ (x : EndedSession). x.outcome) (head_is r.ended _ session grows))) of_file))
+  by_change None (Begins_over kind outcome) was fits none end grows = absurd (fits (subst IsOutcomeOfFile (sym (ap (λ (x : EndedSession). x.outcome) (head_is r.ended _ session grows))) of_file))
   by_change (Some s) (Begins_over kind outcome) was fits none end grows = absurd (longer_two r.ended _ _ session grows)
 
-pub ended_by_file : (media : Media) (log : List Event) (e : Event) (session : EndedSession) → (loader_reading media (e ∷ log)).ended ≡ session ∷ (loader_reading media log).ended → IsOfFile session.outcome → EndedByFile media (loader_reading media log) e session.outcome
+pub ended_by_file : (media : Media) (log : List Event) (e : Event) (session : EndedSession) → (loader_reading media (e ∷ log)).ended ≡ session ∷ (loader_reading media log).ended → IsOutcomeOfFile session.outcome → EndedByFile media (loader_reading media log) e session.outcome
 ended_by_file media log e session grows of_file =
     let r = loader_reading media log in
     let d = loader_decision media (loader_view r) e in

@@ -12,14 +12,14 @@ use Rattle.transfer_end.specs.Views.{TransferView}
 use Rattle.accept_rules.specs.Permissions.{Accepts}
 use Rattle.session_rules.specs.declared.outcome.FileKind.{FileKind}
 use Rattle.session_rules.specs.declared.outcome.FileKind.TheVariants as kinds
-use Rattle.session_rules.specs.BufferLaws.{SumsJoin}
-use Rattle.session_rules.specs.FairLaws.{target_moves_fit}
-use Rattle.session_rules.specs.ListLaws.{target_asks_in_turn, turned_reading}
+use Rattle.session_rules.proofs.BufferLemmas.{SumsJoin}
+use Rattle.session_rules.proofs.FairLemmas.{target_moves_fit}
+use Rattle.session_rules.proofs.ListLemmas.{target_asks_in_turn, turned_reading}
 use Rattle.session_rules.specs.Lists.{AskedInTurn, RowAsks}
 use Rattle.session_rules.specs.LoaderLog.{newest}
 use Rattle.session_rules.specs.Reports.{lcs_file, progress_lus, ready_lus}
 use Rattle.session_rules.specs.Target as target
-use Rattle.session_rules.specs.TargetLaws.{FitsChange, HasTurned, after, decision_fits, seen_row, turned_row, turned_view}
+use Rattle.session_rules.proofs.TargetLemmas.{FitsChange, HasTurned, after, decision_fits, seen_row, turned_row, turned_view}
 use Rattle.session_rules.specs.TargetLog.{TargetReading, TargetSessionLog, reading_turned, session_view, target_extended, target_view, with_done}
 use Rattle.session_rules.specs.TargetRows.{Arriving, Awaits_lur, Gives_denial, Gives_lci, Gives_lui, Over, Reads_file, RowMove, RowView, Writes_completion, Writes_lcl, Writes_lcs, Writes_progress, Writes_ready, Writes_stop, arriving_of, view_moved, with_bytes}
 

@@ -11,21 +11,21 @@ use Rattle.accept_rules.specs.Permissions.{AcceptsPermitted}
 use Rattle.transfer_end.specs.OtherEnds.{MoveHasRole, MovesStayFair}
 use Rattle.transfer_end.specs.Transfers.{Reads, Role, ServesRead, ServesWrite, Transfer, Writes}
 use Rattle.session_rules.specs.declared.outcome.FileKind.{FileKind}
-use Rattle.session_rules.specs.BufferLaws.{SumsJoin}
+use Rattle.session_rules.proofs.BufferLemmas.{SumsJoin}
 use Rattle.session_rules.specs.FileNames.{file_name}
-use Rattle.session_rules.specs.ReadFileLaws.{RequestsAreSpelled}
-use Rattle.session_rules.specs.SoundLogLaws.{PayloadsAreBytes}
-use Rattle.session_rules.specs.SoundnessLaws.{HeadersAreSpelled}
+use Rattle.session_rules.proofs.ReadFileLemmas.{RequestsAreSpelled}
+use Rattle.session_rules.proofs.SoundLogLemmas.{PayloadsAreBytes}
+use Rattle.session_rules.proofs.SoundnessLemmas.{HeadersAreSpelled}
 use Rattle.session_rules.specs.Target.{target_decision}
-use Rattle.session_rules.specs.TargetLaws.{seen_row}
+use Rattle.session_rules.proofs.TargetLemmas.{seen_row}
 use Rattle.session_rules.specs.TargetLog.{TargetReading, target_extended, target_view}
 use Rattle.session_rules.specs.TargetRows.{RowView}
-use Rattle.replay_rules.specs.BothEnds.{Is_up, Setting, TargetState, target_at}
-use Rattle.replay_rules.specs.ChangeLaws.{HasTarget}
+use Rattle.replay_rules.specs.BothEnds.{Is_up, Setting, TargetStanding, target_at}
+use Rattle.replay_rules.proofs.ChangeLemmas.{HasTarget}
 use Rattle.replay_rules.specs.Causes.{BeginsSmall}
 use Rattle.replay_rules.specs.MediaTraces.{LengthsAreTold}
 use Rattle.replay_rules.specs.OtherEndTraces.{IsUninjected, WhatArrivesWasSent, former_at, transfers_of}
-use Rattle.replay_rules.specs.TieLaws.{HasLive, target_is_live}
+use Rattle.replay_rules.proofs.TieLemmas.{HasLive, target_is_live}
 use Rattle.replay_rules.proofs.EachBefore.{AllOver, NewOver, roles_mapped, trace_over}
 use Rattle.replay_rules.proofs.PlacedRows.{PlacedRow, SessionPlaced, StatePlaced, placed_before, reached_placed, state_placed}
 use Rattle.replay_rules.proofs.AnsweredLater.{one_before}
@@ -67,14 +67,14 @@ module _ (joins : SumsJoin) (moves : MovesStayFair) (spells : HeadersAreSpelled)
     then = target_extended set.accepts r e
 
     placed_now : SessionPlaced then.end then.live
-    placed_now = reached_placed set joins (Some e) (Is_up r) (subst (λ (state : TargetState). HasLive state) up (target_is_live joins set steps)) (subst StatePlaced up (state_placed set joins steps))
+    placed_now = reached_placed set joins (Some e) (Is_up r) (subst (λ (state : TargetStanding). HasLive state) up (target_is_live joins set steps)) (subst StatePlaced up (state_placed set joins steps))
 
     fits_now : SessionFits AllWanted UploadSmall HasText then.live
     fits_now =
         let brings : BringsAt AllWanted UploadSmall HasText HasSmallLoads set (Is_up r) (Some e) =
-        subst (λ (state : TargetState). BringsAt AllWanted UploadSmall HasText HasSmallLoads set state (Some e)) up
+        subst (λ (state : TargetStanding). BringsAt AllWanted UploadSmall HasText HasSmallLoads set state (Some e)) up
         (subst (λ (x : Option Event). BringsAt AllWanted UploadSmall HasText HasSmallLoads set (target_at set steps) x) comes (brings_at joins moves spells payloads requests arrives set permits told begins_small quiet_step steps is)) in
-        (reached_fits AllWanted UploadSmall HasText HasSmallLoads set installs_small tt joins (Some e) (Is_up r) (subst (λ (state : TargetState). HasLive state) up (target_is_live joins set steps)) brings
+        (reached_fits AllWanted UploadSmall HasText HasSmallLoads set installs_small tt joins (Some e) (Is_up r) (subst (λ (state : TargetStanding). HasLive state) up (target_is_live joins set steps)) brings
         (subst (StateFits AllWanted UploadSmall HasText HasSmallLoads set) up
         (state_fits AllWanted UploadSmall HasText HasSmallLoads set installs_small tt joins (IsUninjected set) (one_before set) (brings_at joins moves spells payloads requests arrives set permits told begins_small) (begins_with_small set.start begins_small) steps (one_before set quiet_step steps is)))).0
 
@@ -84,7 +84,7 @@ module _ (joins : SumsJoin) (moves : MovesStayFair) (spells : HeadersAreSpelled)
         let row : RowView = seen_row h.session in
         let is = row_writes (target_view r) row name o file h.asks in (
           row_kind row,
-          is.0 ∙ ap (λ (id : Identity). file_name id.hw id.pos (row_kind row)) (subst (λ (state : TargetState). HasTarget set state) up (same_target set steps)),
+          is.0 ∙ ap (λ (id : Identity). file_name id.hw id.pos (row_kind row)) (subst (λ (state : TargetStanding). HasTarget set state) up (same_target set steps)),
           record { row = row; is_kind = refl; writes = is.1; placed = placed_before row then.end.past (former_at set steps) (subst (SessionPlaced then.end) h.live placed_now).placed; fits = subst (SessionFits AllWanted UploadSmall HasText) h.live fits_now },
         )
         )
@@ -99,7 +99,7 @@ module _ (joins : SumsJoin) (moves : MovesStayFair) (spells : HeadersAreSpelled)
       → AllByRecursion (MoveHasRole (NewOver (FilesOver set (record { given = given; posts = posts; notes = [] } ∷ steps)) (former_at set steps) (target_extended set.accepts r e).end)) (target_decision set.accepts (target_view r) e).moves
   begins given posts steps r e up comes fact =
       roles_mapped (IsAskedSo set.accepts r e) (NewOver (FilesOver set (record { given = given; posts = posts; notes = [] } ∷ steps)) (former_at set steps) (target_extended set.accepts r e).end)
-      (asked_over given posts steps r e up comes fact) _ (moves_asked joins set.accepts r e (subst (λ (state : TargetState). HasLive state) up (target_is_live joins set steps)))
+      (asked_over given posts steps r e up comes fact) _ (moves_asked joins set.accepts r e (subst (λ (state : TargetStanding). HasLive state) up (target_is_live joins set steps)))
 
   pub target_files_over : (steps : List Step) → IsUninjected set steps → AllOver (FilesOver set steps) (transfers_of (target_at set steps) ++ former_at set steps)
   target_files_over steps is = trace_over set (FilesOver set) Fact (one_before set) (still_files set) begins steps is

@@ -7,22 +7,22 @@ use Rattle.tftp_packet.specs.Packets.{PacketView}
 use Rattle.exchange_trace.specs.declared.trace.Side.TheVariants as sides
 use Rattle.exchange_trace.specs.Logs.{Event, Gets, Learns, Starts_info, Starts_upload, Ticks}
 use Rattle.transfer_end.specs.Moves.{Move, past_with, readings_after}
-use Rattle.transfer_end.specs.OtherEndLaws.{among_right}
+use Rattle.transfer_end.proofs.OtherEndLemmas.{among_right}
 use Rattle.transfer_end.specs.OtherEnds.{Among, is_asking}
 use Rattle.transfer_end.specs.Readings.{Reading}
 use Rattle.transfer_end.specs.Transfers.{Reads, Role, ServesRead, ServesWrite, Transfer, Writes, with_packet}
 use Rattle.session_rules.specs.declared.outcome.SessionKind.{SessionKind}
 use Rattle.session_rules.specs.declared.outcome.SessionKind.TheVariants.{Info, Upload}
 use Rattle.session_rules.specs.Loader.{Advances, Begins, Begins_over, Continues, EndedSession, Ends, LoaderChange, Start, loader_decision}
-use Rattle.session_rules.specs.LoaderLaws.{end_stays, row_of_more, row_of_none}
+use Rattle.session_rules.proofs.LoaderLemmas.{end_stays, row_of_more, row_of_none}
 use Rattle.session_rules.specs.LoaderLog.{LoaderReading, SessionLog, loader_reading, loader_reading_changed, loader_view, newest}
-use Rattle.session_rules.specs.LoaderRoleLaws.{loader_decision_fits}
+use Rattle.session_rules.proofs.LoaderRoleLemmas.{loader_decision_fits}
 use Rattle.session_rules.specs.LoaderRoles.{EndsLive, FitsLoaderChange, IsNoError, loader_row}
 use Rattle.session_rules.specs.LoaderRows.{LoaderRow, Reads_lci, Reads_lui, Serves_files, Takes_lcl, Takes_lcs, Takes_lus, Writes_lur, first_row, row_after, row_of}
 use Rattle.session_rules.specs.MediaFiles.{Media}
 use Rattle.session_rules.specs.OwnSessions.{HasNoStart, IsOfNewestStart, IsStartedBy, WasAnswered}
-use Rattle.session_rules.specs.RequestLaws.{BeginsBy, loader_fits}
-use Rattle.session_rules.specs.SessionLaws.{begun_by, decision_begins}
+use Rattle.session_rules.proofs.RequestLemmas.{BeginsBy, loader_fits}
+use Rattle.session_rules.proofs.SessionLemmas.{begun_by, decision_begins}
 use Rattle.session_rules.specs.Sessions.{started_by}
 use Rattle.replay_rules.proofs.FileEnds.{FitsFile, LiveReads, decision_fits}
 use Rattle.replay_rules.proofs.TargetRoles.{IsReading}

@@ -8,28 +8,28 @@ use Rattle.exchange_trace.specs.declared.trace.Side.{Side}
 use Rattle.exchange_trace.specs.declared.trace.Side.TheVariants as sides
 use Rattle.exchange_trace.specs.Happenings.{Booted, DatagramView, Delivered, Ended, HappeningView, Info_started, Injected, Lost, Power_cut, Size_told, Ticked, Upload_started, is_same_side, other}
 use Rattle.exchange_trace.specs.Logs.{Down, Event, Gets, Learns, Life, Starts_info, Starts_upload, Ticks, Up, event_for, gets, logged, loader_log, target_life}
-use Rattle.exchange_trace.specs.PostLaws.{port_above_all}
+use Rattle.exchange_trace.proofs.PostLemmas.{port_above_all}
 use Rattle.exchange_trace.specs.Posts.{first_port_after, is_from_own_port, numbered, posted_in}
 use Rattle.exchange_trace.specs.Steps.{Note, Step}
 use Rattle.transfer_end.specs.Came.{AcksWhatCame}
-use Rattle.transfer_end.specs.CameLaws.{all_mapped}
+use Rattle.transfer_end.proofs.CameLemmas.{all_mapped}
 use Rattle.transfer_end.specs.FirstPosts.{AllInOrder, MovesPostInOrder}
 use Rattle.transfer_end.specs.OtherEnds.{PortsFit}
-use Rattle.session_rules.specs.AckLaws.{loader_acks_what_came, target_extended_acks}
-use Rattle.session_rules.specs.BufferLaws.{SumsJoin}
-use Rattle.session_rules.specs.FairLaws.{loader_ports_stay, target_ports_stay}
-use Rattle.session_rules.specs.FirstPostLaws.{loader_step_in_order, target_step_in_order}
+use Rattle.session_rules.proofs.AckLemmas.{loader_acks_what_came, target_extended_acks}
+use Rattle.session_rules.proofs.BufferLemmas.{SumsJoin}
+use Rattle.session_rules.proofs.FairLemmas.{loader_ports_stay, target_ports_stay}
+use Rattle.session_rules.proofs.FirstPostLemmas.{loader_step_in_order, target_step_in_order}
 use Rattle.session_rules.specs.FirstPosts.{unless_tick}
 use Rattle.session_rules.specs.LoaderLog.{loader_reading}
 use Rattle.session_rules.specs.TargetLog.{target_extended}
-use Rattle.session_rules.specs.ViewLaws.{loader_live}
-use Rattle.replay_rules.specs.BothEnds.{Is_down, Is_up, Setting, TargetState, come_up, gone_down, loader_at, noted, reached, target_at}
-use Rattle.replay_rules.specs.CameTraceLaws.{target_takes}
-use Rattle.replay_rules.specs.CameTraces.{TargetTakes}
+use Rattle.session_rules.proofs.ViewLemmas.{loader_live}
+use Rattle.replay_rules.specs.BothEnds.{Is_down, Is_up, Setting, TargetStanding, come_up, gone_down, loader_at, noted, reached, target_at}
+use Rattle.replay_rules.proofs.CameTraceLemmas.{target_takes}
+use Rattle.replay_rules.specs.CameTraces.{LifeTakesWhatCame}
 use Rattle.replay_rules.specs.Due.{AllDue, AllNoted, due_of_loader, due_of_target, goes_down, is_up}
 use Rattle.replay_rules.specs.FirstPostTraces.{LoaderPostsInOrder, TargetInOrder, TargetPostsInOrder, first_posts, is_tick, posts_of_side}
-use Rattle.replay_rules.specs.PlacedTraceLaws.{all_append}
-use Rattle.replay_rules.specs.TieLaws.{HasLive, target_is_live}
+use Rattle.replay_rules.proofs.PlacedTraceLemmas.{all_append}
+use Rattle.replay_rules.proofs.TieLemmas.{HasLive, target_is_live}
 use Rattle.replay_rules.proofs.SentTraces.{NotedAs, above_59, came_up, no_due_at_boot, noted_as, nothing_noted, was_refused, went_down}
 
 -- ---- whose posts
@@ -59,7 +59,7 @@ loader_posts_its : (set : Setting) (steps : List Step) (e : Option Event) → Of
 loader_posts_its set steps None = tt
 loader_posts_its set steps (Some e) = all_mapped (AcksWhatCame sides.Loader (e ∷ loader_log steps)) (λ (d : DatagramView). d.side ≡ sides.Loader) (λ d h. h.poster) _ (loader_acks_what_came set.media (loader_log steps) e)
 
-target_posts_its : (set : Setting) (life : Life) (state : TargetState) (e : Option Event) → TargetTakes life state → OfSide sides.Target (due_of_target set state e)
+target_posts_its : (set : Setting) (life : Life) (state : TargetStanding) (e : Option Event) → LifeTakesWhatCame life state → OfSide sides.Target (due_of_target set state e)
 target_posts_its set (Up first_port log) (Is_up r) None takes = tt
 target_posts_its set (Up first_port log) (Is_up r) (Some e) (packets, blocks, last) =
     all_mapped (AcksWhatCame sides.Target (e ∷ log)) (λ (d : DatagramView). d.side ≡ sides.Target) (λ d h. h.poster) _ (target_extended_acks set.accepts log r e packets last)
@@ -152,11 +152,11 @@ loader_posts_in_order in_order set steps due = (loader_in_order in_order set ste
 
 -- ---- the target
 
-abbrev TargetAll : List DatagramView → TargetState → Type 0
+abbrev TargetAll : List DatagramView → TargetStanding → Type 0
 TargetAll posts (Is_up r) = AllInOrder r.end posts × PortsFit r.end []
 TargetAll posts (Is_down active interrupted) = Unit {0}
 
-target_step : MovesPostInOrder → (set : Setting) (h : HappeningView) (state : TargetState) (e : Option Event) (posts : List DatagramView) → ((x : Event) → e ≡ Some x → (more : List DatagramView) → TickIs h x more) → HasLive state → TargetAll posts state
+target_step : MovesPostInOrder → (set : Setting) (h : HappeningView) (state : TargetStanding) (e : Option Event) (posts : List DatagramView) → ((x : Event) → e ≡ Some x → (more : List DatagramView) → TickIs h x more) → HasLive state → TargetAll posts state
     → TargetAll (posts ++ cond (is_tick h) [] (due_of_target set state e)) (reached set e state)
 target_step in_order set h (Is_up r) None posts ticks live (was, ports) =
     (subst (λ (more : List DatagramView). AllInOrder r.end (posts ++ more)) (sym (none_if (is_tick h))) (subst (λ (all : List DatagramView). AllInOrder r.end all) (sym (append-nil posts)) was), ports)
@@ -167,12 +167,12 @@ target_step in_order set h (Is_up r) (Some e) posts ticks live (was, ports) = (
 target_step in_order set h (Is_down active interrupted) None posts ticks live was = tt
 target_step in_order set h (Is_down active interrupted) (Some e) posts ticks live was = tt
 
-gone_all : (posts : List DatagramView) (before after : TargetState) → TargetAll posts (gone_down before after)
+gone_all : (posts : List DatagramView) (before after : TargetStanding) → TargetAll posts (gone_down before after)
 gone_all posts (Is_up r) (Is_up s) = tt
 gone_all posts (Is_up r) (Is_down active interrupted) = tt
 gone_all posts (Is_down active interrupted) after = tt
 
-new_all : (posts : List DatagramView) (before after : TargetState) (first_port sequence : ℕ) → 59 < first_port → AllByRecursion (λ (d : DatagramView). d.from < first_port) posts → TargetAll posts (come_up first_port sequence (gone_down before after))
+new_all : (posts : List DatagramView) (before after : TargetStanding) (first_port sequence : ℕ) → 59 < first_port → AllByRecursion (λ (d : DatagramView). d.from < first_port) posts → TargetAll posts (come_up first_port sequence (gone_down before after))
 new_all posts (Is_up r) (Is_up s) first_port sequence above below = (record { each = λ t a. absurd a; below = below }, record { counts = tt; first = above; below = tt; rise = tt })
 new_all posts (Is_up r) (Is_down active interrupted) first_port sequence above below = (record { each = λ t a. absurd a; below = below }, record { counts = tt; first = above; below = tt; rise = tt })
 new_all posts (Is_down active interrupted) after first_port sequence above below = (record { each = λ t a. absurd a; below = below }, record { counts = tt; first = above; below = tt; rise = tt })
@@ -208,7 +208,7 @@ first_below port (s ∷ earlier) above all =
     by true h = tt
     by false h = h
 
-noted_all : (notes : List Note) (port : ℕ) (h : HappeningView) (before after : TargetState) (posts due : List DatagramView) → NotedAs port h notes → (h ≡ Booted → due ≡ []) → 59 < port → AllByRecursion (λ (d : DatagramView). d.from < port) posts
+noted_all : (notes : List Note) (port : ℕ) (h : HappeningView) (before after : TargetStanding) (posts due : List DatagramView) → NotedAs port h notes → (h ≡ Booted → due ≡ []) → 59 < port → AllByRecursion (λ (d : DatagramView). d.from < port) posts
     → TargetAll (posts ++ cond (is_tick h) [] due) after → TargetAll (posts ++ cond (is_tick h) [] (cond (goes_down notes) [] due)) (noted notes before after)
 noted_all notes port h before after posts due nothing_noted booted above below is = is
 noted_all notes port h before after posts due went_down booted above below is = gone_all _ before after
@@ -229,7 +229,7 @@ target_in_order joins in_order set (s ∷ earlier) due may =
     (first_below (first_port_after earlier) earlier (above_59 earlier) (port_above_all 1024 (posted_in earlier)))
     (target_step in_order set s.given (target_at set earlier) e (first_posts sides.Target earlier) (λ x is more. tick_is sides.Target (posted_in earlier) s.given x more is) (target_is_live joins set earlier) (target_in_order joins in_order set earlier due.1 may.1)))
 
-only_order : (posts : List DatagramView) (state : TargetState) → TargetAll posts state → TargetInOrder posts state
+only_order : (posts : List DatagramView) (state : TargetStanding) → TargetAll posts state → TargetInOrder posts state
 only_order posts (Is_up r) h = h.0.each
 only_order posts (Is_down active interrupted) h = tt
 

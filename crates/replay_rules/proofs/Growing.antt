@@ -5,7 +5,7 @@ use Rattle.tftp_link.specs.Answers.{Again, Answer, Completes, Dropped, Fails, Gr
 use Rattle.exchange_trace.specs.declared.trace.Side.{Side}
 use Rattle.exchange_trace.specs.Happenings.{DatagramView}
 use Rattle.transfer_end.specs.Moves.{Asks, Asks_size, Hears, Move, Recalls, Refuses, Repeats, Serves, Stops, past_with, reading_after, reading_answered, reading_unchanged, readings_after}
-use Rattle.transfer_end.specs.OtherEndLaws.{all_at, ports_fit_rise, ports_stay_one}
+use Rattle.transfer_end.proofs.OtherEndLemmas.{all_at, ports_fit_rise, ports_stay_one}
 use Rattle.transfer_end.specs.OtherEnds.{Among, OwnPortsRise, PortsFit, all_of}
 use Rattle.transfer_end.specs.Readings.{Reading}
 use Rattle.transfer_end.specs.Transfers.{Transfer, bound_to, end_answer, end_of, with_packet}

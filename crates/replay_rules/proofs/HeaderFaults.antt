@@ -3,13 +3,13 @@ use Rattle.std.proofs.Common.{◌≡◌, ℕ, ◌+◌, ◌*◌, ◌/◌, ◌%◌
 use Rattle.std.specs.Prelude.{codes, nat_le, ◌==◌}
 use Rattle.std.specs.List.{list_all}
 use Rattle.crc_fields.specs.CheckSums.{crc16_of}
-use Rattle.crc_fields.specs.WidthLaws.{crc16_fits}
+use Rattle.crc_fields.proofs.WidthLemmas.{crc16_fits}
 use Rattle.field_grammar.specs.Answers.{answer}
 use Rattle.field_grammar.specs.declared.fault.FieldFault.{FieldFault}
 use Rattle.field_grammar.specs.declared.fault.FieldFault.TheVariants as fields
 use Rattle.field_grammar.specs.Fields.{judged_padded, number, number_in, pad, raw, section}
 use Rattle.field_grammar.specs.Grammar.{Grammar, IsBytes, check, ended, expected, judged, left, listed, prefix, renamed, seq, sized}
-use Rattle.field_grammar.specs.NumberLaws.{IsWide, wide2, wide4, wide8}
+use Rattle.field_grammar.proofs.NumberLemmas.{IsWide, wide2, wide4, wide8}
 use Rattle.header_sections.specs.Sections as pieces
 use Rattle.header_sections.specs.Sections.{end, name_verdict, part_verdict, section_at, start, text_verdict, user_data}
 use Rattle.header_sections.specs.declared.fault.SectionFault.{SectionFault}

@@ -11,28 +11,28 @@ use Rattle.exchange_trace.specs.Posts.{posted_in}
 use Rattle.exchange_trace.specs.Steps.{Step}
 use Rattle.accept_rules.specs.Permissions.{AcceptsPermitted}
 use Rattle.transfer_end.specs.Moves.{past_with}
-use Rattle.transfer_end.specs.OtherEndLaws.{among_left, among_right}
+use Rattle.transfer_end.proofs.OtherEndLemmas.{among_left, among_right}
 use Rattle.transfer_end.specs.OtherEnds.{Among, MoveHasRole, is_asking, is_receiving}
 use Rattle.transfer_end.specs.Transfers.{Reads, Role, ServesRead, ServesWrite, Transfer, Writes, arrived_of, end_in, is_received}
-use Rattle.session_rules.specs.BufferLaws.{SumsJoin}
-use Rattle.session_rules.specs.CompletionLaws.{target_tells_installed}
+use Rattle.session_rules.proofs.BufferLemmas.{SumsJoin}
+use Rattle.session_rules.proofs.CompletionLemmas.{target_tells_installed}
 use Rattle.session_rules.specs.Completions.{InstallsNow, SaysCompleted, TellsInstalled}
-use Rattle.session_rules.specs.ReadFileLaws.{RequestsAreSpelled}
+use Rattle.session_rules.proofs.ReadFileLemmas.{RequestsAreSpelled}
 use Rattle.session_rules.specs.Requests.{InstallsRequest, RequestArrived}
-use Rattle.session_rules.specs.SoundLogLaws.{PayloadsAreBytes}
+use Rattle.session_rules.proofs.SoundLogLemmas.{PayloadsAreBytes}
 use Rattle.session_rules.specs.SoundLogs.{IsNewAt, StaysOrIsNew}
-use Rattle.session_rules.specs.SoundnessLaws.{HeadersAreSpelled}
+use Rattle.session_rules.proofs.SoundnessLemmas.{HeadersAreSpelled}
 use Rattle.session_rules.specs.Target as target
 use Rattle.session_rules.specs.TargetLog.{TargetReading, target_extended, target_view}
-use Rattle.replay_rules.specs.BothEnds.{Is_up, Setting, TargetState, changed, reached, target_at}
-use Rattle.replay_rules.specs.ChangeLaws.{changes_are_new}
-use Rattle.replay_rules.specs.CompletedRows.{new_is_made}
+use Rattle.replay_rules.specs.BothEnds.{Is_up, Setting, TargetStanding, changed, reached, target_at}
+use Rattle.replay_rules.proofs.ChangeLemmas.{changes_are_new}
+use Rattle.replay_rules.proofs.CompletedRows.{new_is_made}
 use Rattle.replay_rules.specs.Changes.{AllCarryBytes, AllStayOrAreNew, TargetStaysOrIsNew}
 use Rattle.replay_rules.specs.Due.{goes_down}
 use Rattle.replay_rules.specs.Histories.{IsMadeOf, active_in, brings}
 use Rattle.replay_rules.specs.OtherEndTraces.{former_at, target_transfers, transfers_of}
-use Rattle.replay_rules.specs.Promises.{HasParts}
-use Rattle.replay_rules.specs.TieLaws.{HasLive, target_is_live}
+use Rattle.replay_rules.specs.Promises.{HavePartsAsked}
+use Rattle.replay_rules.proofs.TieLemmas.{HasLive, target_is_live}
 use Rattle.replay_rules.proofs.AskedFor.{NewHas, parts_of, step_has, target_has}
 use Rattle.replay_rules.proofs.EachBefore.{AllOver, NewOver, roles_mapped, trace_over}
 use Rattle.replay_rules.proofs.ToldTraces.{changes}
@@ -50,7 +50,7 @@ pub record IsInstalledBefore (set : Setting) (steps : List Step) (earlier : List
   pub brought : brings set install before ≡ Some new
   pub stays_up : goes_down install.notes ≡ false
   pub request : List Wanted
-  pub parts : IsMadeOf (target_at set before) (HasParts (map (λ (w : Wanted). w.part) request)) new
+  pub parts : IsMadeOf (target_at set before) (HavePartsAsked (map (λ (w : Wanted). w.part) request)) new
   pub asked : List Transfer
   pub lur : Transfer
   pub older : List Transfer
@@ -115,7 +115,7 @@ module _ (joins : SumsJoin) (spells : HeadersAreSpelled) (payloads : PayloadsAre
     there : (t : Transfer) → Among t then.end.past → Among t (target_transfers set quiet_step earlier)
     there t a =
         subst (λ (x : Option Event). Among t (transfers_of (reached set x (target_at set earlier)) ++ former_at set earlier)) (sym comes)
-        (subst (λ (state : TargetState). Among t (transfers_of (reached set (Some e) state) ++ former_at set earlier)) (sym up) (among_left t (past_with then.end.live then.end.past) (former_at set earlier) (live_too then.end.live)))
+        (subst (λ (state : TargetStanding). Among t (transfers_of (reached set (Some e) state) ++ former_at set earlier)) (sym up) (among_left t (past_with then.end.live then.end.past) (former_at set earlier) (live_too then.end.live)))
       where
         live_too : (live : Option Transfer) → Among t (past_with live then.end.past)
         live_too None = a
@@ -131,12 +131,12 @@ module _ (joins : SumsJoin) (spells : HeadersAreSpelled) (payloads : PayloadsAre
           before = earlier;
           new = then.active;
           split = refl;
-          brought = ap (λ (state : TargetState). changed (active_in state) (active_in (reached set (event_for sides.Target (posted_in earlier) given) state))) up
+          brought = ap (λ (state : TargetStanding). changed (active_in state) (active_in (reached set (event_for sides.Target (posted_in earlier) given) state))) up
               ∙ ap (λ (x : Option Event). changed r.active (active_in (reached set x (Is_up r)))) comes ∙ changes r.active then.active now.loads now.next;
           stays_up = refl;
           request = new.upload.request;
-          parts = subst (λ (state : TargetState). IsMadeOf state (HasParts (map (λ (w : Wanted). w.part) new.upload.request)) then.active) (sym up)
-              (new_is_made set.accepts r then new (HasParts (map (λ (w : Wanted). w.part) new.upload.request)) (parts_of new.upload.request new.loads new.new.each));
+          parts = subst (λ (state : TargetStanding). IsMadeOf state (HavePartsAsked (map (λ (w : Wanted). w.part) new.upload.request)) then.active) (sym up)
+              (new_is_made set.accepts r then new (HavePartsAsked (map (λ (w : Wanted). w.part) new.upload.request)) (parts_of new.upload.request new.loads new.new.each));
           asked = h.since;
           lur = h.transfer;
           older = h.before ++ former_at set earlier;
@@ -168,15 +168,15 @@ module _ (joins : SumsJoin) (spells : HeadersAreSpelled) (payloads : PayloadsAre
       let has : NewHas set (target_at set steps) (event_for sides.Target (posted_in steps) given) =
       (step_has joins spells payloads requests set permits (record { given = given; posts = posts; notes = [] }) steps bytes (target_has joins spells payloads requests set permits steps bytes.1)).1 in
       roles_mapped (TellsInstalled set.accepts r e) (NewOver (TellsOver set (record { given = given; posts = posts; notes = [] } ∷ steps)) (former_at set steps) (target_extended set.accepts r e).end)
-      (tells_role given posts steps r e up comes (stays_at up comes now) (has_at up comes has)) _ (target_tells_installed joins set.accepts r e (subst (λ (state : TargetState). HasLive state) up (target_is_live joins set steps)))
+      (tells_role given posts steps r e up comes (stays_at up comes now) (has_at up comes has)) _ (target_tells_installed joins set.accepts r e (subst (λ (state : TargetStanding). HasLive state) up (target_is_live joins set steps)))
     where
       stays_at : target_at set steps ≡ Is_up r → event_for sides.Target (posted_in steps) given ≡ Some e → TargetStaysOrIsNew set (target_at set steps) (reached set (event_for sides.Target (posted_in steps) given) (target_at set steps)) → StaysOrIsNew set.accepts r (target_extended set.accepts r e)
       stays_at up comes now =
-          subst (λ (state : TargetState). TargetStaysOrIsNew set state (reached set (Some e) state)) up
+          subst (λ (state : TargetStanding). TargetStaysOrIsNew set state (reached set (Some e) state)) up
           (subst (λ (x : Option Event). TargetStaysOrIsNew set (target_at set steps) (reached set x (target_at set steps))) comes now)
 
       has_at : target_at set steps ≡ Is_up r → event_for sides.Target (posted_in steps) given ≡ Some e → NewHas set (target_at set steps) (event_for sides.Target (posted_in steps) given) → InstallsRequest set.accepts r (target_extended set.accepts r e)
-      has_at up comes has = subst (λ (state : TargetState). NewHas set state (Some e)) up (subst (λ (x : Option Event). NewHas set (target_at set steps) x) comes has)
+      has_at up comes has = subst (λ (state : TargetStanding). NewHas set state (Some e)) up (subst (λ (x : Option Event). NewHas set (target_at set steps) x) comes has)
 
   -- whatever comes to the target
   pub target_tells_over : (steps : List Step) → AllCarryBytes steps → AllOver (TellsOver set steps) (transfers_of (target_at set steps) ++ former_at set steps)

@@ -23,35 +23,35 @@ use Rattle.exchange_trace.specs.Posts.{posted_in}
 use Rattle.exchange_trace.specs.Steps.{Boot_refused, Came_up, Note, Step, Went_down}
 use Rattle.accept_rules.specs.Permissions.{AcceptsPermitted}
 use Rattle.transfer_end.specs.Moves.{past_with}
-use Rattle.transfer_end.specs.OtherEndLaws.{all_at, among_either, among_left}
+use Rattle.transfer_end.proofs.OtherEndLemmas.{all_at, among_either, among_left}
 use Rattle.transfer_end.specs.OtherEnds.{Among, AnswersRequest, ComesFromEnd, MovesStayFair, TellsLength, file_sent, is_asking, is_receiving, of_end, of_none, request_taken}
 use Rattle.transfer_end.specs.Packets.{packet_in}
-use Rattle.transfer_end.specs.SentPacketLaws.{read_is_spelled}
+use Rattle.transfer_end.proofs.SentPacketLemmas.{read_is_spelled}
 use Rattle.transfer_end.specs.Transfers.{Reads, Role, ServesRead, ServesWrite, Transfer, Writes, arrived_of, end_in, first_packet, is_reading, is_received, name_of}
-use Rattle.session_rules.specs.BufferLaws.{SumsJoin}
+use Rattle.session_rules.proofs.BufferLemmas.{SumsJoin}
 use Rattle.session_rules.specs.Fairness.{IsLoaderRole}
-use Rattle.session_rules.specs.InstallationLaws.{good_are_checked}
+use Rattle.session_rules.proofs.InstallationLemmas.{good_are_checked}
 use Rattle.session_rules.specs.MediaFiles.{Media}
 use Rattle.session_rules.specs.NewConfigs.{AreOfMedia, IsAsSaid, IsChecked, IsWanted, file_read, files_in, reads_in}
-use Rattle.session_rules.specs.ReadFileLaws.{RequestsAreSpelled, target_step_reads}
+use Rattle.session_rules.proofs.ReadFileLemmas.{RequestsAreSpelled, target_step_reads}
 use Rattle.session_rules.specs.ReadFiles.{AreNamed, InstallsWhatWasRead, SessionReads}
-use Rattle.session_rules.specs.SoundLogLaws.{PayloadsAreBytes}
+use Rattle.session_rules.proofs.SoundLogLemmas.{PayloadsAreBytes}
 use Rattle.session_rules.specs.SoundLogs.{IsNewAt}
-use Rattle.session_rules.specs.SoundnessLaws.{HeadersAreSpelled}
+use Rattle.session_rules.proofs.SoundnessLemmas.{HeadersAreSpelled}
 use Rattle.session_rules.specs.TargetLog.{TargetReading, target_extended}
 use Rattle.session_rules.specs.Uploads.{files_of}
-use Rattle.replay_rules.specs.BothEnds.{Is_down, Is_up, Setting, TargetState, changed, come_up, gone_down, loader_at, noted, reached, target_at}
-use Rattle.replay_rules.specs.CameTraceLaws.{target_takes}
-use Rattle.replay_rules.specs.CameTraces.{TargetTakes}
-use Rattle.replay_rules.specs.ChangeLaws.{TargetIsSound, changes_are_new, step_sound, target_sound}
+use Rattle.replay_rules.specs.BothEnds.{Is_down, Is_up, Setting, TargetStanding, changed, come_up, gone_down, loader_at, noted, reached, target_at}
+use Rattle.replay_rules.proofs.CameTraceLemmas.{target_takes}
+use Rattle.replay_rules.specs.CameTraces.{LifeTakesWhatCame}
+use Rattle.replay_rules.proofs.ChangeLemmas.{TargetIsSound, changes_are_new, step_sound, target_sound}
 use Rattle.replay_rules.specs.Changes.{AllCarryBytes, AllStayOrAreNew, TargetStaysOrIsNew}
-use Rattle.replay_rules.specs.CompletedRows.{new_is_made}
+use Rattle.replay_rules.proofs.CompletedRows.{new_is_made}
 use Rattle.replay_rules.specs.Histories.{IsMadeOf, active_in}
 use Rattle.replay_rules.specs.MediaTraces.{InstallsAreOfMedia, LengthsAreTold}
 use Rattle.replay_rules.specs.OtherEndTraces.{AllArriveAsSent, ArrivesAsSent, former_at, loader_transfers, target_transfers, transfers_of}
-use Rattle.replay_rules.specs.PlacedTraceLaws.{all_append}
+use Rattle.replay_rules.proofs.PlacedTraceLemmas.{all_append}
 use Rattle.replay_rules.specs.Promises.{AllOfMedia, BroughtIsOfMedia}
-use Rattle.replay_rules.specs.TieLaws.{HasLive, target_is_live}
+use Rattle.replay_rules.proofs.TieLemmas.{HasLive, target_is_live}
 use Rattle.replay_rules.proofs.ListedTraces.{before_zero_same, false_is_true}
 use Rattle.replay_rules.proofs.SentTraces.{loader_gives_media, what_arrives_was_sent}
 
@@ -156,25 +156,25 @@ module _ (set : Setting) (s : Step) (earlier : List Step) (told : LengthsAreTold
       there : (t : Transfer) → Among t (target_extended set.accepts r e).end.past → Among t (target_transfers set s earlier)
       there t a =
           subst (λ (x : Option Event). Among t (transfers_of (reached set x (target_at set earlier)) ++ former_at set earlier)) (sym comes)
-          (subst (λ (state : TargetState). Among t (transfers_of (reached set (Some e) state) ++ former_at set earlier)) (sym up)
+          (subst (λ (state : TargetStanding). Among t (transfers_of (reached set (Some e) state) ++ former_at set earlier)) (sym up)
           (among_left t (past_with (target_extended set.accepts r e).end.live (target_extended set.accepts r e).end.past) (former_at set earlier) (with_live (target_extended set.accepts r e).end.live (target_extended set.accepts r e).end.past t a)))
 
 -- ---- what the target read, at each moment
 
-abbrev TargetReads : TargetState → Type 0
+abbrev TargetReads : TargetStanding → Type 0
 TargetReads (Is_up r) = SessionReads r
 TargetReads (Is_down active interrupted) = Unit {0}
 
-gone_reads : (set : Setting) (before after : TargetState) → TargetReads (gone_down before after)
+gone_reads : (set : Setting) (before after : TargetStanding) → TargetReads (gone_down before after)
 gone_reads set (Is_up r) (Is_up s) = tt
 gone_reads set (Is_up r) (Is_down active interrupted) = tt
 gone_reads set (Is_down active interrupted) after = tt
 
-come_reads : (set : Setting) (first_port sequence : ℕ) (state : TargetState) → TargetReads state → TargetReads (come_up first_port sequence state)
+come_reads : (set : Setting) (first_port sequence : ℕ) (state : TargetStanding) → TargetReads state → TargetReads (come_up first_port sequence state)
 come_reads set first_port sequence (Is_up r) h = h
 come_reads set first_port sequence (Is_down active interrupted) h = tt
 
-noted_reads : (set : Setting) (notes : List Note) (before after : TargetState) → TargetReads after → TargetReads (noted notes before after)
+noted_reads : (set : Setting) (notes : List Note) (before after : TargetStanding) → TargetReads after → TargetReads (noted notes before after)
 noted_reads set [] before after h = h
 noted_reads set (Went_down ∷ notes) before after h = noted_reads set notes (gone_down before after) (gone_down before after) (gone_reads set before after)
 noted_reads set (Came_up first_port sequence ∷ notes) before after h =
@@ -182,12 +182,12 @@ noted_reads set (Came_up first_port sequence ∷ notes) before after h =
 noted_reads set (Boot_refused fault ∷ notes) before after h = noted_reads set notes (gone_down before after) (gone_down before after) (gone_reads set before after)
 
 -- what one event makes of it
-abbrev NewIsRead : Setting → TargetState → Option Event → Type 0
+abbrev NewIsRead : Setting → TargetStanding → Option Event → Type 0
 NewIsRead set (Is_up r) (Some e) = (new : IsNewAt set.accepts r (target_extended set.accepts r e)) → InstallsWhatWasRead set.accepts r (target_extended set.accepts r e) new
 NewIsRead set state e = Unit {0}
 
 module _ (joins : SumsJoin) (spells : HeadersAreSpelled) (payloads : PayloadsAreBytes) (requests : RequestsAreSpelled) (set : Setting) (permits : AcceptsPermitted set.accepts) where
-  reached_reads : (life then : Life) (state : TargetState) (e : Option Event) → TargetTakes life state → HasLive state → TargetIsSound set (life_reached e life) (reached set e state) → TargetReads state
+  reached_reads : (life then : Life) (state : TargetStanding) (e : Option Event) → LifeTakesWhatCame life state → HasLive state → TargetIsSound set (life_reached e life) (reached set e state) → TargetReads state
       → TargetReads (reached set e state) × NewIsRead set state e
   reached_reads (Up first_port log) then (Is_up r) None takes live sound h = (h, tt)
   reached_reads (Up first_port log) then (Is_up r) (Some e) (packets, blocks, last) live (fit, sound) h = target_step_reads requests set.accepts joins payloads log r e fit packets live h
@@ -208,16 +208,16 @@ module _ (joins : SumsJoin) (spells : HeadersAreSpelled) (payloads : PayloadsAre
 
 -- ---- what is brought
 
-brought_if : (set : Setting) (steps : List Step) (b : Bool) (state : TargetState) (after : StandingView) → IsMadeOf state (AreOfMedia set.media) after → BroughtIsOfMedia set state (cond b None (Some after)) steps
+brought_if : (set : Setting) (steps : List Step) (b : Bool) (state : TargetStanding) (after : StandingView) → IsMadeOf state (AreOfMedia set.media) after → BroughtIsOfMedia set state (cond b None (Some after)) steps
 brought_if set steps true state after media = tt
 brought_if set steps false state after media = λ nothing. media
 
-none_brought : (set : Setting) (steps : List Step) (state : TargetState) (before after : StandingView) → after ≡ before → BroughtIsOfMedia set state (changed before after) steps
+none_brought : (set : Setting) (steps : List Step) (state : TargetStanding) (before after : StandingView) → after ≡ before → BroughtIsOfMedia set state (changed before after) steps
 none_brought set steps state before after same =
     subst (λ (b : Bool). BroughtIsOfMedia set state (cond b None (Some after)) steps) (sym (eq-eqb before.sequence after.sequence (sym (ap (λ (x : StandingView). x.sequence) same)))) tt
 
 module _ (set : Setting) (s : Step) (earlier : List Step) (told : LengthsAreTold set.media) (sent : ArrivesAsSent set s earlier) where
-  step_brings : (state : TargetState) (e : Option Event) → target_at set earlier ≡ state → event_for sides.Target (posted_in earlier) s.given ≡ e → TargetStaysOrIsNew set state (reached set e state) → NewIsRead set state e
+  step_brings : (state : TargetStanding) (e : Option Event) → target_at set earlier ≡ state → event_for sides.Target (posted_in earlier) s.given ≡ e → TargetStaysOrIsNew set state (reached set e state) → NewIsRead set state e
       → BroughtIsOfMedia set state (changed (active_in state) (active_in (reached set e state))) (s ∷ earlier)
   step_brings (Is_up r) None up comes change read = none_brought set (s ∷ earlier) (Is_up r) r.active r.active refl
   step_brings (Is_up r) (Some e) up comes (inl same) read = none_brought set (s ∷ earlier) (Is_up r) r.active (target_extended set.accepts r e).active same

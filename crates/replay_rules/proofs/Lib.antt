@@ -2,7 +2,6 @@ pub mod SentTraces
 pub mod ListedTraces
 pub mod InstalledMedia
 pub mod ActiveStays
-pub mod FirstOrGoodLaws
 pub mod FirstPosting
 pub mod ToldTraces
 pub mod AskedFor
@@ -49,3 +48,9 @@ pub mod SmallLoads
 pub mod SmallTransfers
 pub mod FilesInRows
 pub mod FilesOver
+pub mod CameTraceLemmas
+pub mod ChangeLemmas
+pub mod CompletedRows
+pub mod PlacedTraceLemmas
+pub mod TieLemmas
+pub mod FirstOrGoodLemmas

@@ -10,20 +10,20 @@ use Rattle.exchange_trace.specs.Posts.{posted_in}
 use Rattle.exchange_trace.specs.Steps.{Step}
 use Rattle.transfer_end.specs.OtherEnds.{MoveHasRole}
 use Rattle.transfer_end.specs.Transfers.{Reads, Role, ServesRead, ServesWrite, Transfer, Writes}
-use Rattle.session_rules.specs.BufferLaws.{SumsJoin}
+use Rattle.session_rules.proofs.BufferLemmas.{SumsJoin}
 use Rattle.session_rules.specs.FileNames.{file_name}
-use Rattle.session_rules.specs.ListLaws.{moves_ask}
+use Rattle.session_rules.proofs.ListLemmas.{moves_ask}
 use Rattle.session_rules.specs.Lists.{IsAskedRole}
 use Rattle.session_rules.specs.Reports.{lcl_file}
 use Rattle.session_rules.specs.Target.{target_decision}
 use Rattle.session_rules.specs.TargetLog.{TargetReading, target_extended, target_view}
-use Rattle.replay_rules.specs.BothEnds.{Is_up, Setting, TargetState, reached, target_at}
-use Rattle.replay_rules.specs.ChangeLaws.{HasTarget}
+use Rattle.replay_rules.specs.BothEnds.{Is_up, Setting, TargetStanding, reached, target_at}
+use Rattle.replay_rules.proofs.ChangeLemmas.{HasTarget}
 use Rattle.replay_rules.specs.Histories.{active_at, active_in}
 use Rattle.replay_rules.specs.ListTraces.{IsWrittenInTime, TargetWritesInTime}
 use Rattle.replay_rules.specs.OtherEndTraces.{former_at, target_transfers, transfers_of}
 use Rattle.replay_rules.specs.Promises.{ListIsDue}
-use Rattle.replay_rules.specs.TieLaws.{HasLive, target_is_live}
+use Rattle.replay_rules.proofs.TieLemmas.{HasLive, target_is_live}
 use Rattle.replay_rules.proofs.EachBefore.{AllOver, NewOver, newest_then, over_at, roles_mapped, trace_over}
 use Rattle.replay_rules.proofs.ListedTraces.{IsWrittenAs, list_due, not_due, same_target}
 
@@ -64,15 +64,15 @@ module _ (joins : SumsJoin) (set : Setting) where
     asked_over : (role : Role) → IsAskedRole set.accepts r e role → NewOver (WritesOver set (quiet_step ∷ steps)) (former_at set steps) then.end role
     asked_over (Writes name o file) (kind, named, lists) = λ t live. (
       kind,
-      named ∙ ap (λ (id : Identity). file_name id.hw id.pos kind) (subst (λ (state : TargetState). HasTarget set state) up (same_target set steps)),
+      named ∙ ap (λ (id : Identity). file_name id.hw id.pos kind) (subst (λ (state : TargetStanding). HasTarget set state) up (same_target set steps)),
       λ is. let asked = lists is in record {
         since = [];
         made = quiet_step;
         before = steps;
         split = refl;
-        due = subst (λ (x : Option Event). ListIsDue (reached set x (target_at set steps))) (sym comes) (subst (λ (state : TargetState). ListIsDue (reached set (Some e) state)) (sym up) (list_due set r e file asked));
-        newly = λ was. not_due set.accepts r e file asked (subst (λ (state : TargetState). ListIsDue state) up was);
-        lists = asked.lists ∙ ap (λ (state : TargetState). lcl_file (outline_of (active_in state))) (sym up);
+        due = subst (λ (x : Option Event). ListIsDue (reached set x (target_at set steps))) (sym comes) (subst (λ (state : TargetStanding). ListIsDue (reached set (Some e) state)) (sym up) (list_due set r e file asked));
+        newly = λ was. not_due set.accepts r e file asked (subst (λ (state : TargetStanding). ListIsDue state) up was);
+        lists = asked.lists ∙ ap (λ (state : TargetStanding). lcl_file (outline_of (active_in state))) (sym up);
         newest = t;
         transfers = newest_then set given posts steps r e t up comes live;
       },
@@ -88,7 +88,7 @@ module _ (joins : SumsJoin) (set : Setting) where
       → AllByRecursion (MoveHasRole (NewOver (WritesOver set (record { given = given; posts = posts; notes = [] } ∷ steps)) (former_at set steps) (target_extended set.accepts r e).end)) (target_decision set.accepts (target_view r) e).moves
   begins given posts steps r e up comes fact =
       roles_mapped (IsAskedRole set.accepts r e) (NewOver (WritesOver set (record { given = given; posts = posts; notes = [] } ∷ steps)) (former_at set steps) (target_extended set.accepts r e).end)
-      (asked_over given posts steps r e up comes) _ (moves_ask joins set.accepts r e (subst (λ (state : TargetState). HasLive state) up (target_is_live joins set steps)))
+      (asked_over given posts steps r e up comes) _ (moves_ask joins set.accepts r e (subst (λ (state : TargetStanding). HasLive state) up (target_is_live joins set steps)))
 
   -- whatever comes to the target
   pub target_lists_over : (steps : List Step) → AllOver (WritesOver set steps) (transfers_of (target_at set steps) ++ former_at set steps)

@@ -3,7 +3,7 @@ use Rattle.std.proofs.Common.{◌≡◌, inl, inr, ℕ, suc, true, false, cond, 
 use Rattle.std.specs.Prelude.{bytes_eq}
 use Rattle.std.proofs.lemmas.List.{append_cancel_left}
 use Rattle.field_grammar.specs.Answers.{answer}
-use Rattle.field_grammar.specs.ExactLaws.{answer-spelled, spelled_at_start}
+use Rattle.field_grammar.proofs.ExactLemmas.{answer-spelled, spelled_at_start}
 use Rattle.field_grammar.specs.Fields.{number_bytes}
 use Rattle.field_grammar.specs.Grammar.{IsBytes, Spelled}
 use Rattle.load_protocol_files.specs.Lcl.{LclSpells, LclView, lcl}
@@ -21,7 +21,7 @@ use Rattle.exchange_trace.specs.Steps.{Boot_refused, Came_up, Note, Step, Went_d
 use Rattle.transfer_end.specs.Moves.{past_with, readings_after}
 use Rattle.transfer_end.specs.OtherEnds.{Among, TellsLength, file_sent, is_asking, is_receiving, request_taken}
 use Rattle.transfer_end.specs.Packets.{packet_in}
-use Rattle.transfer_end.specs.SentPacketLaws.{read_is_spelled}
+use Rattle.transfer_end.proofs.SentPacketLemmas.{read_is_spelled}
 use Rattle.transfer_end.specs.Readings.{Reading}
 use Rattle.transfer_end.specs.Transfers.{Reads, Role, ServesRead, ServesWrite, Transfer, Writes, first_packet}
 use Rattle.accept_rules.specs.Permissions.{Accepts}
@@ -32,11 +32,11 @@ use Rattle.session_rules.specs.Lists.{ListIsAsked}
 use Rattle.session_rules.specs.LoaderLog.{newest}
 use Rattle.session_rules.specs.LoaderRoles.{TakesFile}
 use Rattle.session_rules.specs.Target.{Begins, Continues, Ends, TargetChange, Turns, Turns_without_port, target_decision}
-use Rattle.session_rules.specs.TargetLaws.{identity_stays}
+use Rattle.session_rules.proofs.TargetLemmas.{identity_stays}
 use Rattle.session_rules.specs.TargetRows.{WholeRow, Writes_lcl}
 use Rattle.session_rules.specs.TargetLog.{TargetReading, TargetSessionLog, log_turned, reading_turned, reading_without_port, target_extended, target_reading_changed, target_view}
-use Rattle.replay_rules.specs.BothEnds.{Is_down, Is_up, Setting, TargetState, come_up, gone_down, noted, reached, target_at}
-use Rattle.replay_rules.specs.ChangeLaws.{HasTarget, noted_target}
+use Rattle.replay_rules.specs.BothEnds.{Is_down, Is_up, Setting, TargetStanding, come_up, gone_down, noted, reached, target_at}
+use Rattle.replay_rules.proofs.ChangeLemmas.{HasTarget, noted_target}
 use Rattle.replay_rules.specs.Histories.{active_at}
 use Rattle.replay_rules.specs.ListTraces.{AllCanBeListed, CanBeListed, OwnFilesAreNamed}
 use Rattle.replay_rules.specs.OtherEndTraces.{transfers_of}
@@ -53,7 +53,7 @@ changed_identity accepts end r None (Turns_without_port move more) is = ap (λ (
 changed_identity accepts end r (Some s) (Turns_without_port move more) is = ap (λ (l : Option TargetSessionLog). (log_turned accepts reading_without_port end r l).active.identity) is ∙ identity_stays r.active _
 changed_identity accepts end r live (Ends reason) is = refl
 
-reached_target : (set : Setting) (e : Option Event) (state : TargetState) → HasTarget set state → HasTarget set (reached set e state)
+reached_target : (set : Setting) (e : Option Event) (state : TargetStanding) → HasTarget set state → HasTarget set (reached set e state)
 reached_target set None (Is_up r) is = is
 reached_target set (Some e) (Is_up r) is =
     let d = target_decision set.accepts (target_view r) e in
@@ -68,23 +68,23 @@ same_target set (s ∷ earlier) =
 
 -- ---- lives
 
-gone_none : (before after : TargetState) → transfers_of (gone_down before after) ≡ []
+gone_none : (before after : TargetStanding) → transfers_of (gone_down before after) ≡ []
 gone_none (Is_up r) (Is_up s) = refl
 gone_none (Is_up r) (Is_down active interrupted) = refl
 gone_none (Is_down active interrupted) after = refl
 
-come_none : (first_port sequence : ℕ) (state : TargetState) → transfers_of state ≡ [] → transfers_of (come_up first_port sequence state) ≡ []
+come_none : (first_port sequence : ℕ) (state : TargetStanding) → transfers_of state ≡ [] → transfers_of (come_up first_port sequence state) ≡ []
 come_none first_port sequence (Is_up r) none = none
 come_none first_port sequence (Is_down active interrupted) none = refl
 
-noted_none : (notes : List Note) (before after : TargetState) → transfers_of after ≡ [] → transfers_of (noted notes before after) ≡ []
+noted_none : (notes : List Note) (before after : TargetStanding) → transfers_of after ≡ [] → transfers_of (noted notes before after) ≡ []
 noted_none [] before after none = none
 noted_none (Went_down ∷ notes) before after none = noted_none notes (gone_down before after) (gone_down before after) (gone_none before after)
 noted_none (Came_up first_port sequence ∷ notes) before after none =
     let up = come_up first_port sequence (gone_down before after) in noted_none notes up up (come_none first_port sequence (gone_down before after) (gone_none before after))
 noted_none (Boot_refused fault ∷ notes) before after none = noted_none notes (gone_down before after) (gone_down before after) (gone_none before after)
 
-pub one_noted : (note : Note) (notes : List Note) (before after : TargetState) → transfers_of (noted (note ∷ notes) before after) ≡ []
+pub one_noted : (note : Note) (notes : List Note) (before after : TargetStanding) → transfers_of (noted (note ∷ notes) before after) ≡ []
 one_noted Went_down notes before after = noted_none notes (gone_down before after) (gone_down before after) (gone_none before after)
 one_noted (Came_up first_port sequence) notes before after =
     let up = come_up first_port sequence (gone_down before after) in noted_none notes up up (come_none first_port sequence (gone_down before after) (gone_none before after))
@@ -246,7 +246,7 @@ only_loader posted (Power_cut calls pick) e is = inl refl
 only_loader posted Booted e is = inl refl
 only_loader posted Ended e is = inl refl
 
-pub reached_none : (set : Setting) (state : TargetState) → reached set None state ≡ state
+pub reached_none : (set : Setting) (state : TargetStanding) → reached set None state ≡ state
 reached_none set (Is_up r) = refl
 reached_none set (Is_down active interrupted) = refl
 

@@ -8,19 +8,19 @@ use Rattle.exchange_trace.specs.Logs.{Event, event_for, logged, loader_log}
 use Rattle.exchange_trace.specs.Posts.{posted_in}
 use Rattle.exchange_trace.specs.Steps.{Step}
 use Rattle.transfer_end.specs.Moves.{past_with}
-use Rattle.transfer_end.specs.OtherEndLaws.{all_at, among_either, among_left, among_right, own_not_59}
-use Rattle.transfer_end.specs.OtherEnds.{Among, Brought, BroughtFrom, HasBegun, IsAnsweredBy, IsFair, IsPostOfSide, MovesStayFair, OwnPortsRise, answered, is_asking, of_refusal, of_transfer, refused, served, unanswered}
+use Rattle.transfer_end.proofs.OtherEndLemmas.{all_at, among_either, among_left, among_right, own_not_59}
+use Rattle.transfer_end.specs.OtherEnds.{Among, Brought, BroughtFrom, TransferHasBegun, IsAnsweredBy, IsFair, IsPostOfSide, MovesStayFair, OwnPortsRise, answered, is_asking, of_refusal, of_transfer, refused, served, unanswered}
 use Rattle.transfer_end.specs.Packets.{packet_in}
 use Rattle.transfer_end.specs.Readings.{mark_in, raised_by}
-use Rattle.transfer_end.specs.SentPacketLaws.{written_is_read}
+use Rattle.transfer_end.proofs.SentPacketLemmas.{written_is_read}
 use Rattle.transfer_end.specs.Transfers.{Reads, Role, ServesRead, ServesWrite, Transfer, Writes, bound_to}
-use Rattle.session_rules.specs.BufferLaws.{SumsJoin}
+use Rattle.session_rules.proofs.BufferLemmas.{SumsJoin}
 use Rattle.session_rules.specs.Loader.{Start}
 use Rattle.session_rules.specs.LoaderLog.{LoaderReading, SessionLog, loader_extended, loader_reading}
-use Rattle.session_rules.specs.LoaderRoleLaws.{loader_roles_fit}
+use Rattle.session_rules.proofs.LoaderRoleLemmas.{loader_roles_fit}
 use Rattle.session_rules.specs.LoaderRoles.{EndsWithLive, IsAboveMark, IsNoError, LoaderRoleFits, ServedIsFresh, WritesLur}
 use Rattle.session_rules.specs.MediaFiles.{Media}
-use Rattle.session_rules.specs.OwnSessionLaws.{sessions_are_of_newest_starts}
+use Rattle.session_rules.proofs.OwnSessionLemmas.{sessions_are_of_newest_starts}
 use Rattle.session_rules.specs.OwnSessions.{IsOfNewestStart, LiveIsOfNewestStart, HasNoStart}
 use Rattle.session_rules.specs.Sessions.{started_by}
 use Rattle.replay_rules.specs.BothEnds.{Setting, loader_at, reached, target_at}
@@ -101,7 +101,7 @@ answered_by me them mine theirs posted w p one other_one a asks heard no_error =
         let h : Brought posted them 59 w.own p = subst (λ (peer : Option ℕ). BroughtFrom posted them w.own peer p) is_59 (all_at (BroughtFrom posted them w.own w.peer) w.got p (one.got w a) heard) in
         of_post h (other_one.posts (record { side = them; from = 59; to = w.own; bytes = h.bytes }) h.among refl)
 
-    by : HasBegun posted them theirs w → (v : Transfer) × Among v theirs × IsAnsweredBy w v
+    by : TransferHasBegun posted them theirs w → (v : Transfer) × Among v theirs × IsAnsweredBy w v
     by (served serves took) = asks_not _ w.role asks serves
     by (unanswered also none got) = absurd (subst (λ (ps : List PacketView). Among p ps) got heard)
     by (refused also is_59) = absurd (not_refused is_59)

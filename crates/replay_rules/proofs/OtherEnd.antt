@@ -8,10 +8,10 @@ use Rattle.tftp_packet.specs.declared.options.Options.{Options}
 use Rattle.tftp_packet.specs.Packets.{Error, PacketSpells, PacketView, Rrq, Wrq, packet_bytes}
 use Rattle.exchange_trace.specs.declared.trace.Side.{Side}
 use Rattle.exchange_trace.specs.Happenings.{DatagramView}
-use Rattle.transfer_end.specs.OtherEndLaws.{first_is_sent, own_not_59, posted_by}
-use Rattle.transfer_end.specs.OtherEnds.{Among, AnswersRequest, Brought, BroughtFrom, HasBegun, IsFair, IsPostOf, IsPostOfSide, TookRequest, answered, is_asking, of_refusal, of_transfer, refused, request_taken, served, unanswered}
+use Rattle.transfer_end.proofs.OtherEndLemmas.{first_is_sent, own_not_59, posted_by}
+use Rattle.transfer_end.specs.OtherEnds.{Among, AnswersRequest, Brought, BroughtFrom, TransferHasBegun, IsFair, IsPostOf, IsPostOfSide, TookRequest, answered, is_asking, of_refusal, of_transfer, refused, request_taken, served, unanswered}
 use Rattle.transfer_end.specs.Packets.{packet_in}
-use Rattle.transfer_end.specs.SentPacketLaws.{read_is_spelled}
+use Rattle.transfer_end.proofs.SentPacketLemmas.{read_is_spelled}
 use Rattle.transfer_end.specs.Transfers.{Reads, Role, ServesRead, ServesWrite, Transfer, Writes, end_of, end_packet, first_packet}
 use Rattle.replay_rules.proofs.NewestStart.{asks_not, error_is_read, some_is}
 use Rattle.replay_rules.proofs.TargetRoles.{IsGiving, IsReading, IsTaking, IsWriting}
@@ -30,7 +30,7 @@ module _ (me them : Side) (mine theirs : List Transfer) (posted : List DatagramV
   took : TookRequest posted them t
   took = by (one.begun t a)
     where
-      by : HasBegun posted them theirs t → TookRequest posted them t
+      by : TransferHasBegun posted them theirs t → TookRequest posted them t
       by (served also h) = h
       by (unanswered asks none got) = asks_not _ t.role asks serves
       by (refused asks is_59) = asks_not _ t.role asks serves

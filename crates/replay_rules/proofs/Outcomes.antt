@@ -5,13 +5,13 @@ use Rattle.exchange_trace.specs.Steps.{Step}
 use Rattle.transfer_end.specs.OtherEnds.{MovesStayFair, TellsLength, file_sent}
 use Rattle.transfer_end.specs.Transfers.{Reads, Role, ServesRead, ServesWrite, Writes}
 use Rattle.session_rules.specs.declared.outcome.Outcome.TheVariants.{Denied, TargetStopped}
-use Rattle.session_rules.specs.BufferLaws.{SumsJoin}
+use Rattle.session_rules.proofs.BufferLemmas.{SumsJoin}
 use Rattle.session_rules.specs.Loader.{EndedSession}
 use Rattle.session_rules.specs.LoaderRoles.{loader_row}
 use Rattle.session_rules.specs.LoaderRows.{LoaderRow, Reads_lci, Reads_lui, Serves_files, Takes_lcl, Takes_lcs, Takes_lus, Writes_lur}
-use Rattle.session_rules.specs.ReadFileLaws.{RequestsAreSpelled}
-use Rattle.session_rules.specs.SoundnessLaws.{HeadersAreSpelled}
-use Rattle.session_rules.specs.SoundLogLaws.{PayloadsAreBytes}
+use Rattle.session_rules.proofs.ReadFileLemmas.{RequestsAreSpelled}
+use Rattle.session_rules.proofs.SoundnessLemmas.{HeadersAreSpelled}
+use Rattle.session_rules.proofs.SoundLogLemmas.{PayloadsAreBytes}
 use Rattle.replay_rules.specs.BothEnds.{Setting, loader_at, target_at}
 use Rattle.replay_rules.specs.Changes.{AllStayOrAreNew, ChangesAreNew}
 use Rattle.replay_rules.specs.OtherEndTraces.{IsUninjected, WhatArrivesWasSent, former_at, transfers_of}

@@ -16,16 +16,16 @@ use Rattle.session_rules.specs.declared.outcome.FileKind.{FileKind}
 use Rattle.session_rules.specs.declared.outcome.FileKind.TheVariants.{Lcl}
 use Rattle.session_rules.specs.declared.outcome.Outcome.TheVariants.{Completed}
 use Rattle.session_rules.specs.declared.outcome.SessionKind.TheVariants.{Info, Upload}
-use Rattle.session_rules.specs.BufferLaws.{SumsJoin}
+use Rattle.session_rules.proofs.BufferLemmas.{SumsJoin}
 use Rattle.session_rules.specs.Loader.{EndedSession, Start}
 use Rattle.session_rules.specs.LoaderLog.{loader_extended, loader_reading}
-use Rattle.session_rules.specs.LoaderRoleLaws.{completed_lists_arrived, longer}
+use Rattle.session_rules.proofs.LoaderRoleLemmas.{completed_lists_arrived, longer}
 use Rattle.session_rules.specs.LoaderRoles.{ListsArrived}
 use Rattle.session_rules.specs.LoaderRows.{LoaderRow}
 use Rattle.session_rules.specs.MediaFiles.{Media}
 use Rattle.session_rules.specs.OwnSessions.{HasComeTo, IsStartedBy, WasAnswered}
 use Rattle.session_rules.specs.Reports.{lcl_file, lcl_of}
-use Rattle.replay_rules.specs.BothEnds.{Setting, TargetState, loader_at, reached, target_at}
+use Rattle.replay_rules.specs.BothEnds.{Setting, TargetStanding, loader_at, reached, target_at}
 use Rattle.replay_rules.specs.Histories.{active_at}
 use Rattle.replay_rules.specs.ListTraces.{AllCanBeListed, AllListInSession, CompletedListsActive, ListsInSession, OwnFilesAreNamed}
 use Rattle.replay_rules.specs.OtherEndTraces.{IsUninjected, former_at, loader_transfers, target_transfers, transfers_of}
@@ -127,7 +127,7 @@ module _ (joins : SumsJoin) (moves : MovesStayFair) (reads : ListsAreRead) (set 
 
     target_is : target_transfers set s earlier ≡ before_now
     target_is =
-        ap (λ (state : TargetState). transfers_of state ++ former_at set earlier) (ap (λ (x : Option Event). reached set x (target_at set earlier)) alone ∙ reached_none set (target_at set earlier))
+        ap (λ (state : TargetStanding). transfers_of state ++ former_at set earlier) (ap (λ (x : Option Event). reached set x (target_at set earlier)) alone ∙ reached_none set (target_at set earlier))
 
     record Listed : Type 0 where
       u : Transfer

@@ -10,34 +10,34 @@ use Rattle.exchange_trace.specs.Logs.{Event, Gets, Learns, Starts_info, Starts_u
 use Rattle.exchange_trace.specs.Posts.{posted_in}
 use Rattle.exchange_trace.specs.Steps.{Step}
 use Rattle.accept_rules.specs.Permissions.{AcceptsPermitted}
-use Rattle.transfer_end.specs.OtherEndLaws.{all_at, among_either, among_right}
+use Rattle.transfer_end.proofs.OtherEndLemmas.{all_at, among_either, among_right}
 use Rattle.transfer_end.specs.OtherEnds.{Among, AnswersRequest, ComesFromEnd, MovesStayFair, OwnPortsRise, TellsLength, file_sent, is_asking, of_end, of_none}
 use Rattle.transfer_end.specs.Transfers.{Reads, Role, ServesRead, ServesWrite, Transfer, Writes, arrived_of}
 use Rattle.session_rules.specs.declared.outcome.Outcome.TheVariants.{Completed}
 use Rattle.session_rules.specs.declared.outcome.SessionKind.TheVariants.{Info, Upload}
-use Rattle.session_rules.specs.BufferLaws.{SumsJoin}
-use Rattle.session_rules.specs.CompletionLaws.{completed_upload_arrived}
+use Rattle.session_rules.proofs.BufferLemmas.{SumsJoin}
+use Rattle.session_rules.proofs.CompletionLemmas.{completed_upload_arrived}
 use Rattle.session_rules.specs.Completions.{CompletionArrived, SaysCompleted}
-use Rattle.session_rules.specs.HeardLaws.{loader_takes_what_came}
+use Rattle.session_rules.proofs.HeardLemmas.{loader_takes_what_came}
 use Rattle.session_rules.specs.Loader.{EndedSession, Start}
 use Rattle.session_rules.specs.LoaderLog.{loader_extended, loader_reading, newest}
 use Rattle.session_rules.specs.LoaderRoles.{IsOfLoaderRow, LoaderLiveFits, WritesLur, loader_row}
 use Rattle.session_rules.specs.LoaderRows.{LoaderRow}
 use Rattle.session_rules.specs.MediaFiles.{Media, wanted_of}
 use Rattle.session_rules.specs.OwnSessions.{HasComeTo, IsStartedBy, RequestWritten}
-use Rattle.session_rules.specs.ReadFileLaws.{RequestsAreSpelled}
+use Rattle.session_rules.proofs.ReadFileLemmas.{RequestsAreSpelled}
 use Rattle.session_rules.specs.Reports.{lur_file}
-use Rattle.session_rules.specs.SoundLogLaws.{PayloadsAreBytes, newest_bytes}
+use Rattle.session_rules.proofs.SoundLogLemmas.{PayloadsAreBytes, newest_bytes}
 use Rattle.session_rules.specs.SoundLogs.{LogIsBytes}
-use Rattle.session_rules.specs.SoundnessLaws.{HeadersAreSpelled}
-use Rattle.session_rules.specs.LoaderRoleLaws.{longer}
+use Rattle.session_rules.proofs.SoundnessLemmas.{HeadersAreSpelled}
+use Rattle.session_rules.proofs.LoaderRoleLemmas.{longer}
 use Rattle.replay_rules.specs.AskedTraces.{EntriesFit}
-use Rattle.replay_rules.specs.BothEnds.{Is_down, Is_up, Setting, TargetState, changed, loader_at, reached, target_at}
+use Rattle.replay_rules.specs.BothEnds.{Is_down, Is_up, Setting, TargetStanding, changed, loader_at, reached, target_at}
 use Rattle.replay_rules.specs.CompletedTraces.{IsToldInTime}
 use Rattle.replay_rules.specs.Histories.{IsMadeOf, active_in, brings}
 use Rattle.replay_rules.specs.OtherEndTraces.{AllArriveAsSent, ArrivesAsSent, IsUninjected, former_at, loader_transfers, target_transfers, transfers_of}
 use Rattle.replay_rules.specs.OwnSessionTraces.{AllInstalledInSession, CompletedInSession, NoneStarts, WasInstalledInSession}
-use Rattle.replay_rules.specs.Promises.{HasCompleted, HasEnded, HasParts}
+use Rattle.replay_rules.specs.Promises.{HasCompleted, HasEnded, HavePartsAsked}
 use Rattle.replay_rules.proofs.AnsweredLater.{after, answer_rises, answers_rise, loader_grows_over, posted_then, one_before}
 use Rattle.replay_rules.proofs.AskedFor.{RequestsAreRead, found_fits, given_starts, one_request, started_spells}
 use Rattle.replay_rules.proofs.EachBefore.{IsOver, over_at}
@@ -90,7 +90,7 @@ none_brought set s before new none e = by (target_at set before) (sym (ap (λ (x
     same_not : (active : StandingView) → changed active active ≡ Some new → ⊥
     same_not active f = let none_there : changed active active ≡ None = ap (λ (b : Bool). cond b None (Some active)) (eq-eqb active.sequence active.sequence refl) in cc
 
-    by : (state : TargetState) → changed (active_in state) (active_in (reached set None state)) ≡ Some new → ⊥
+    by : (state : TargetStanding) → changed (active_in state) (active_in (reached set None state)) ≡ Some new → ⊥
     by (Is_up r) f = same_not r.active f
     by (Is_down active interrupted) f = same_not active f
 
@@ -160,7 +160,7 @@ module _ (joins : SumsJoin) (moves : MovesStayFair) (spells : HeadersAreSpelled)
     state_is = ap (λ (x : Option Event). reached set x (target_at set earlier)) alone ∙ reached_none set (target_at set earlier)
 
     target_is : target_transfers set s earlier ≡ before_now
-    target_is = ap (λ (state : TargetState). transfers_of state ++ former_at set earlier) state_is
+    target_is = ap (λ (state : TargetStanding). transfers_of state ++ former_at set earlier) state_is
 
     -- what a transfer says that is over, and all before it
     record Told : Type 0 where
@@ -274,10 +274,10 @@ module _ (joins : SumsJoin) (moves : MovesStayFair) (spells : HeadersAreSpelled)
         one_request reads installed.request h.ends.session.start.loads (lur_file h.ends.session.start.loads) (subst (λ (bytes : List ℕ). LurSpells (record { loads = installed.request }) bytes) asked.file installed.spells)
         (started_spells set.media upload.parts h.ends.session.start.loads entries upload.few upload.found)
 
-    parts_are : IsMadeOf (target_at set installed.before) (HasParts upload.parts) installed.new
+    parts_are : IsMadeOf (target_at set installed.before) (HavePartsAsked upload.parts) installed.new
     parts_are = record { new = installed.parts.new; wanted = installed.parts.wanted; are_new = parts; is = installed.parts.is }
       where
-        parts : HasParts upload.parts installed.parts.new
+        parts : HavePartsAsked upload.parts installed.parts.new
         parts = installed.parts.are_new ∙ ap (map (λ (x : Wanted). x.part)) request_is ∙ (found_fits set.media.loads upload.parts h.ends.session.start.loads entries upload.found).1
 
     -- ---- the steps
@@ -335,7 +335,7 @@ module _ (joins : SumsJoin) (moves : MovesStayFair) (spells : HeadersAreSpelled)
           newest = (n.no_start, subst NoneStarts g start_at.newest);
           one = grows ∙ ap (λ (x : List EndedSession). session ∷ x) (sym n.ended_then);
           brought = subst (λ (x : List Step). brings set installed.install x ≡ Some installed.new) f installed.brought;
-          asked = subst (λ (x : List Step). IsMadeOf (target_at set x) (HasParts upload.parts) installed.new) f parts_are;
+          asked = subst (λ (x : List Step). IsMadeOf (target_at set x) (HavePartsAsked upload.parts) installed.new) f parts_are;
           stays_up = installed.stays_up;
         }
 

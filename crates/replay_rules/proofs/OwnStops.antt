@@ -5,18 +5,18 @@ use Rattle.exchange_trace.specs.declared.trace.Side.TheVariants as sides
 use Rattle.exchange_trace.specs.Logs.{Event, Learns, Starts_upload, event_for, loader_log}
 use Rattle.exchange_trace.specs.Posts.{posted_in}
 use Rattle.exchange_trace.specs.Steps.{Step}
-use Rattle.transfer_end.specs.OtherEndLaws.{among_left, among_right}
+use Rattle.transfer_end.proofs.OtherEndLemmas.{among_left, among_right}
 use Rattle.transfer_end.specs.OtherEnds.{Among, MovesStayFair, OwnPortsRise, is_asking}
 use Rattle.transfer_end.specs.Transfers.{Role, Transfer}
 use Rattle.session_rules.specs.declared.outcome.Outcome.TheVariants.{TargetStopped}
-use Rattle.session_rules.specs.BufferLaws.{SumsJoin}
+use Rattle.session_rules.proofs.BufferLemmas.{SumsJoin}
 use Rattle.session_rules.specs.Loader.{EndedSession, Start}
 use Rattle.session_rules.specs.LoaderLog.{SessionLog}
 use Rattle.session_rules.specs.LoaderRoles.{IsOfLoaderRow, LoaderLiveFits, loader_row}
 use Rattle.session_rules.specs.LoaderRows.{LoaderRow, Reads_lci, Reads_lui, Serves_files, Takes_lcl, Takes_lcs, Takes_lus, Writes_lur}
 use Rattle.session_rules.specs.OwnSessions.{HasComeTo, RequestWritten}
 use Rattle.session_rules.specs.Reports.{reason_text}
-use Rattle.replay_rules.specs.BothEnds.{Setting, TargetState, loader_at, reached, target_at}
+use Rattle.replay_rules.specs.BothEnds.{Setting, TargetStanding, loader_at, reached, target_at}
 use Rattle.replay_rules.specs.OtherEndTraces.{IsUninjected, former_at, loader_transfers, target_transfers, transfers_of}
 use Rattle.replay_rules.specs.OwnSessionTraces.{NoneStarts}
 use Rattle.replay_rules.proofs.AnsweredLater.{after, all_before, one_before}
@@ -87,7 +87,7 @@ module _ (joins : SumsJoin) (moves : MovesStayFair) (set : Setting) (hw : Begins
   live_serves = serves own_log.start (loader_row own_log) h.arrived.ends.live.role lus (subst (λ (live : Option Transfer). LoaderLiveFits own_log.start (loader_row own_log) live) h.arrived.ends.going n.roles.0)
 
   target_is : target_transfers set s earlier ≡ transfers_of (target_at set earlier) ++ former_at set earlier
-  target_is = ap (λ (state : TargetState). transfers_of state ++ former_at set earlier) (ap (λ (x : Option Event). reached set x (target_at set earlier)) h.alone ∙ reached_none set (target_at set earlier))
+  target_is = ap (λ (state : TargetStanding). transfers_of state ++ former_at set earlier) (ap (λ (x : Option Event). reached set x (target_at set earlier)) h.alone ∙ reached_none set (target_at set earlier))
 
   pub over : IsOver (StopsOver set earlier) (transfers_of (target_at set earlier) ++ former_at set earlier) h.other
   over = over_at (StopsOver set earlier) (transfers_of (target_at set earlier) ++ former_at set earlier) h.other (target_stops_over joins set hw earlier) h.among
@@ -110,7 +110,7 @@ module _ (joins : SumsJoin) (moves : MovesStayFair) (set : Setting) (hw : Begins
   -- what reached the target in the start's step is nothing
   at_start : (t : Transfer) → Among t (target_transfers set start_at.start start_at.before) → Among t (transfers_of (target_at set start_at.before) ++ former_at set start_at.before)
   at_start t a =
-      subst (λ (state : TargetState). Among t (transfers_of state ++ former_at set start_at.before)) (reached_none set (target_at set start_at.before))
+      subst (λ (state : TargetStanding). Among t (transfers_of state ++ former_at set start_at.before)) (reached_none set (target_at set start_at.before))
       (subst (λ (x : Option Event). Among t (transfers_of (reached set x (target_at set start_at.before)) ++ former_at set start_at.before)) (only (only_loader (posted_in start_at.before) start_at.start.given n.own.event start_at.comes)) a)
     where
       only : (event_for sides.Target (posted_in start_at.before) start_at.start.given ≡ None) ⊎ ((size : Option ℕ) × (n.own.event ≡ Learns size)) → event_for sides.Target (posted_in start_at.before) start_at.start.given ≡ None

@@ -16,16 +16,16 @@ use Rattle.transfer_end.specs.Transfers.{Reads, Role, ServesRead, ServesWrite, T
 use Rattle.accept_rules.specs.Permissions.{Accepts}
 use Rattle.session_rules.specs.declared.outcome.FileKind.{FileKind}
 use Rattle.session_rules.specs.declared.outcome.FileKind.TheVariants.{Lci, Lui}
-use Rattle.session_rules.specs.BufferLaws.{SumsJoin}
+use Rattle.session_rules.proofs.BufferLemmas.{SumsJoin}
 use Rattle.session_rules.specs.LoaderLog.{newest}
 use Rattle.session_rules.specs.Roles.{HasRole}
 use Rattle.session_rules.specs.Target.{Begins, Continues, Ends, TargetChange, Turns, Turns_without_port, target_decision}
-use Rattle.session_rules.specs.TargetLaws.{FitsChange, HasTurned, after, decision_fits, seen_row, turned_row, turned_view}
+use Rattle.session_rules.proofs.TargetLemmas.{FitsChange, HasTurned, after, decision_fits, seen_row, turned_row, turned_view}
 use Rattle.session_rules.specs.TargetLog.{TargetReading, TargetSessionLog, log_turned, reading_turned, target_extended, target_reading_changed, target_view, with_done}
 use Rattle.session_rules.specs.TargetRows.{Arriving, Awaits_lur, Breaks_off, Gives_denial, Gives_lci, Gives_lui, Judges, Kept_bytes, Kept_sums, Over, Passes, Reads_file, Refuses_request, Requests, RowMove, RowView, Writes_completion, Writes_lcl, Writes_lcs, Writes_progress, Writes_ready, Writes_stop, arriving_of, error_move, file_move, first_row, header_move, placed_view_if, read_move, row_after, row_move_by, row_view, view_judged, view_judged_in, view_moved, with_file_view, with_header_view}
 use Rattle.session_rules.specs.Uploads.{Accepts_file, Accepts_header, Complete, Judgement, More_files, Next, Next_load, OpenLoadView, Stops_for, UploadView, next_entry, next_name, next_wanted}
-use Rattle.replay_rules.specs.BothEnds.{Is_down, Is_up, Setting, TargetState, come_up, gone_down, noted, reached, target_at}
-use Rattle.replay_rules.specs.TieLaws.{HasLive, target_is_live}
+use Rattle.replay_rules.specs.BothEnds.{Is_down, Is_up, Setting, TargetStanding, come_up, gone_down, noted, reached, target_at}
+use Rattle.replay_rules.proofs.TieLemmas.{HasLive, target_is_live}
 use Rattle.replay_rules.proofs.TargetRoles.{FitsRole, IsGiving, IsOfTargetRow, IsTaking, LiveGives, LiveOfRow, decision_roles}
 
 -- ---- what was served before
@@ -297,28 +297,28 @@ module _ (joins : SumsJoin) (accepts : Accepts) where
 
 -- ---- a trace
 
-abbrev pub StatePlaced : TargetState → Type 0
+abbrev pub StatePlaced : TargetStanding → Type 0
 StatePlaced (Is_up r) = SessionPlaced r.end r.live
 StatePlaced (Is_down active interrupted) = Unit {0}
 
 module _ (set : Setting) where
-  gone_placed : (before after : TargetState) → StatePlaced (gone_down before after)
+  gone_placed : (before after : TargetStanding) → StatePlaced (gone_down before after)
   gone_placed (Is_up r) (Is_up s) = tt
   gone_placed (Is_up r) (Is_down active interrupted) = tt
   gone_placed (Is_down active interrupted) after = tt
 
-  come_placed : (first_port sequence : ℕ) (state : TargetState) → StatePlaced state → StatePlaced (come_up first_port sequence state)
+  come_placed : (first_port sequence : ℕ) (state : TargetStanding) → StatePlaced state → StatePlaced (come_up first_port sequence state)
   come_placed first_port sequence (Is_up r) h = h
   come_placed first_port sequence (Is_down active interrupted) h = tt
 
-  noted_placed : (notes : List Note) (before after : TargetState) → StatePlaced after → StatePlaced (noted notes before after)
+  noted_placed : (notes : List Note) (before after : TargetStanding) → StatePlaced after → StatePlaced (noted notes before after)
   noted_placed [] before after h = h
   noted_placed (Went_down ∷ notes) before after h = noted_placed notes (gone_down before after) (gone_down before after) (gone_placed before after)
   noted_placed (Came_up first_port sequence ∷ notes) before after h =
       let up = come_up first_port sequence (gone_down before after) in noted_placed notes up up (come_placed first_port sequence (gone_down before after) (gone_placed before after))
   noted_placed (Boot_refused fault ∷ notes) before after h = noted_placed notes (gone_down before after) (gone_down before after) (gone_placed before after)
 
-  pub reached_placed : SumsJoin → (e : Option Event) (state : TargetState) → HasLive state → StatePlaced state → StatePlaced (reached set e state)
+  pub reached_placed : SumsJoin → (e : Option Event) (state : TargetStanding) → HasLive state → StatePlaced state → StatePlaced (reached set e state)
   reached_placed joins None (Is_up r) live h = h
   reached_placed joins (Some e) (Is_up r) live h = extended_placed joins set.accepts r e live h
   reached_placed joins None (Is_down active interrupted) live h = tt

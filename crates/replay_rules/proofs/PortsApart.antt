@@ -8,13 +8,13 @@ use Rattle.exchange_trace.specs.Logs.{loader_log}
 use Rattle.exchange_trace.specs.Posts.{posted_in}
 use Rattle.transfer_end.specs.Laws.{CountUp}
 use Rattle.transfer_end.specs.Moves.{past_with}
-use Rattle.transfer_end.specs.OtherEndLaws.{all_at}
-use Rattle.transfer_end.specs.OtherEnds.{MovesStayFair, Among, HasBegun, IsFair, IsPostOfSide, PortsFit, all_of, answered, of_refusal, of_transfer, refused, served, unanswered}
+use Rattle.transfer_end.proofs.OtherEndLemmas.{all_at}
+use Rattle.transfer_end.specs.OtherEnds.{MovesStayFair, Among, TransferHasBegun, IsFair, IsPostOfSide, PortsFit, all_of, answered, of_refusal, of_transfer, refused, served, unanswered}
 use Rattle.transfer_end.specs.Readings.{Reading, kept_in, mark_in, mark_of, next_port_of, port_past, port_with, raised_by}
 use Rattle.transfer_end.specs.Transfers.{Transfer, end_in, is_received}
-use Rattle.session_rules.specs.BufferLaws.{SumsJoin}
-use Rattle.session_rules.specs.FairLaws.{loader_ports_stay}
-use Rattle.replay_rules.specs.BothEnds.{Is_down, Is_up, Setting, TargetState, loader_at, target_at}
+use Rattle.session_rules.proofs.BufferLemmas.{SumsJoin}
+use Rattle.session_rules.proofs.FairLemmas.{loader_ports_stay}
+use Rattle.replay_rules.specs.BothEnds.{Is_down, Is_up, Setting, TargetStanding, loader_at, target_at}
 use Rattle.replay_rules.specs.OtherEndTraces.{former_at}
 use Rattle.replay_rules.specs.PortTraces.{IsDrawnBefore, PortsStayApart, TargetIsApart}
 use Rattle.replay_rules.proofs.SentTraces.{TargetIsFair, trace_is_fair}
@@ -104,7 +104,7 @@ peer_below me them mine theirs posted port one other_one low below t a = by (one
     of_post peer d from (of_transfer u b post) = subst (λ (n : ℕ). n < port) (sym post.port ∙ from) (below u b)
     of_post peer d from (of_refusal is_59 bytes) = subst (λ (n : ℕ). n < port) (sym is_59 ∙ from) low
 
-    by : HasBegun posted them theirs t → PeerIsBelow port t.peer
+    by : TransferHasBegun posted them theirs t → PeerIsBelow port t.peer
     by (served serves took) = subst (λ (p : Option ℕ). PeerIsBelow port p) (sym took.bound)
         (of_post took.peer (record { side = them; from = took.peer; to = 59; bytes = took.brought.bytes }) refl (other_one.posts (record { side = them; from = took.peer; to = 59; bytes = took.brought.bytes }) took.brought.among refl))
     by (unanswered asks none got) = subst (λ (p : Option ℕ). PeerIsBelow port p) (sym none) tt
@@ -118,7 +118,7 @@ mark_below me them r former theirs posted port one other_one low below =
 
 -- ---- a trace
 
-apart : (set : Setting) (loader : Reading) (state : TargetState) (former : List Transfer) (posted : List DatagramView) → PortsFit loader [] → TargetIsFair state former (all_of loader []) posted → TargetIsApart loader state
+apart : (set : Setting) (loader : Reading) (state : TargetStanding) (former : List Transfer) (posted : List DatagramView) → PortsFit loader [] → TargetIsFair state former (all_of loader []) posted → TargetIsApart loader state
 apart set loader (Is_up r) former posted fit h =
     let (last, ports) = h.has in
     record {

@@ -10,12 +10,12 @@ use Rattle.std.proofs.lemmas.List.Sums.{sum_by-append, sum_by-cons}
 use Rattle.std.proofs.lemmas.Option.{slice_get_within}
 use Rattle.std.proofs.Math.Nat.{min-le_left}
 use Rattle.crc_fields.specs.CheckSums.{crc32_after, crc32_of}
-use Rattle.crc_fields.specs.WidthLaws.{crc16_fits, crc32_fits}
+use Rattle.crc_fields.proofs.WidthLemmas.{crc16_fits, crc32_fits}
 use Rattle.field_grammar.specs.Answers.{answer}
 use Rattle.field_grammar.specs.Fields.{number_fields}
 use Rattle.field_grammar.specs.Grammar.{IsBytes}
-use Rattle.field_grammar.specs.NumberLaws.{length_number_bytes}
-use Rattle.field_grammar.specs.WrittenLaws.{at_most_each}
+use Rattle.field_grammar.proofs.NumberLemmas.{length_number_bytes}
+use Rattle.field_grammar.proofs.WrittenLemmas.{at_most_each}
 use Rattle.load_base.specs.Text.{IsText}
 use Rattle.load_header.specs.declared.fault.HeaderFault.{HeaderFault}
 use Rattle.load_header.specs.declared.fault.HeaderFault.TheVariants as headers
@@ -30,7 +30,7 @@ use Rattle.disk_layout.specs.declared.manifest.ManifestFile.{ManifestFile}
 use Rattle.disk_layout.specs.declared.manifest.Layout.TheVariants as layouts
 use Rattle.disk_layout.specs.Manifest.{LoadEntry, file_entry_fields, load_entry_fields, manifest_fields, total_length, type_fields}
 use Rattle.disk_layout.specs.Holds.{Outline}
-use Rattle.part_number.specs.VerdictLaws.{part_size}
+use Rattle.part_number.proofs.VerdictLemmas.{part_size}
 use Rattle.accept_rules.specs.Permissions.{Accepts}
 use Rattle.session_rules.specs.declared.reason.Reason.{Reason}
 use Rattle.session_rules.specs.declared.reason.Reason.TheVariants as reasons
@@ -38,12 +38,12 @@ use Rattle.session_rules.specs.declared.reason.RequestFault.{RequestFault}
 use Rattle.session_rules.specs.declared.reason.RequestFault.TheVariants as requests
 use Rattle.session_rules.specs.Buffers.{Sums, buffer_size, buffered, is_too_long, summed}
 use Rattle.session_rules.specs.KeptLoads.{has_other_type, kept_entries, told_loads, types_of}
-use Rattle.session_rules.specs.ReadFileLaws.{RequestsAreSpelled}
+use Rattle.session_rules.proofs.ReadFileLemmas.{RequestsAreSpelled}
 use Rattle.session_rules.specs.Reports.{reason_text, request_fault_text}
-use Rattle.session_rules.specs.SoundnessLaws.{HeadersAreSpelled}
+use Rattle.session_rules.proofs.SoundnessLemmas.{HeadersAreSpelled}
 use Rattle.session_rules.specs.TargetRows.{Arriving, Awaits_lur, Gives_denial, Gives_lci, Gives_lui, Kept_bytes, Kept_sums, Over, Reads_file, RowMove, RowView, Writes_completion, Writes_lcl, Writes_lcs, Writes_progress, Writes_ready, Writes_stop, arriving_load, arriving_of, error_move, file_move, header_move, load_entry_of, read_move, request_move, row_move_by, said_length, with_file_view, with_header_view}
 use Rattle.session_rules.specs.Uploads.{Accepts_file, Accepts_header, Judgement, More_files, Next, OpenLoadView, Stops_for, UploadView, arrived_with, covered_header, entry_name, files_of, header_reason, is_for, is_last, is_load_count, judge_file, judge_header, judge_read_header, judge_request, judged, kept_after, kept_at_last, load_reason, load_total, loads_at, need_of, next_entry, next_name, next_name_in, next_number, next_wanted, next_with, or_else, planned_load, request_read, unless}
-use Rattle.replay_rules.specs.PlacedTraceLaws.{all_append}
+use Rattle.replay_rules.proofs.PlacedTraceLemmas.{all_append}
 use Rattle.replay_rules.proofs.HeaderFaults.{header_fault_short}
 use Rattle.replay_rules.proofs.RequestFaults.{request_fault_short}
 use Rattle.replay_rules.proofs.RowsFit.{Brings, BringsJudged, RowFits, SoundPlaced, ToldIf, UploadFits}

@@ -6,7 +6,7 @@ use Rattle.std.proofs.lemmas.Bool.{eqb-true}
 use Rattle.field_grammar.specs.Answers.{answer}
 use Rattle.field_grammar.specs.Fields.{number_bytes, number_in}
 use Rattle.field_grammar.specs.Grammar.{IsBytes}
-use Rattle.field_grammar.specs.NumberLaws.{wide1}
+use Rattle.field_grammar.proofs.NumberLemmas.{wide1}
 use Rattle.load_base.specs.Text.{IsText}
 use Rattle.load_protocol_files.specs.declared.fault.FileFault.{FileFault}
 use Rattle.load_protocol_files.specs.declared.lci.Lci.{Lci}
@@ -25,18 +25,18 @@ use Rattle.session_rules.specs.declared.outcome.Outcome.TheVariants.{BadFile, De
 use Rattle.session_rules.specs.declared.reason.Reason.{Reason}
 use Rattle.session_rules.specs.declared.reason.Reason.TheVariants.{SequenceSpent}
 use Rattle.session_rules.specs.Buffers.{Buffer, buffer_size, is_too_long}
-use Rattle.session_rules.specs.LoaderRows.{Comes_to, LoaderRow, Reads_lci, Reads_lui, Serves_files, Takes_lcl, Takes_lcs, Takes_lus, Turn, Writes_lur, bad_file, bytes_turn, file_turn, first_lus_turn, kind_received, later_lus_turn, lci_turn, lcl_turn, lcs_turn, lui_turn}
+use Rattle.session_rules.specs.LoaderRows.{Comes_to, LoaderRow, Reads_lci, Reads_lui, Serves_files, Takes_lcl, Takes_lcs, Takes_lus, RowTurn, Writes_lur, bad_file, bytes_turn, file_turn, first_lus_turn, kind_received, later_lus_turn, lci_turn, lcl_turn, lcs_turn, lui_turn}
 use Rattle.session_rules.specs.Reports.{accepted, completed, denied, denying_lui, in_progress, reason_text, stopped, stopped_lus}
-use Rattle.session_rules.specs.SoundnessLaws.{read_is_spelled}
+use Rattle.session_rules.proofs.SoundnessLemmas.{read_is_spelled}
 use Rattle.replay_rules.proofs.TargetFiles.{IsDenial, IsLcsStop, IsStop, stopped_rest}
 use Rattle.load_protocol_files.specs.declared.lur.Wanted.{Wanted}
 
 -- ---- turns
 
-abbrev pub ComesAs : Type 0 → Outcome → Turn → Type 0
+abbrev pub ComesAs : Type 0 → Outcome → RowTurn → Type 0
 ComesAs A outcome turn = turn ≡ Comes_to outcome → A
 
-pub as_if : (A : Type 0) (outcome : Outcome) (b : Bool) (x y : Turn) → (b ≡ true → ComesAs A outcome x) → ComesAs A outcome y → ComesAs A outcome (cond b x y)
+pub as_if : (A : Type 0) (outcome : Outcome) (b : Bool) (x y : RowTurn) → (b ≡ true → ComesAs A outcome x) → ComesAs A outcome y → ComesAs A outcome (cond b x y)
 as_if A outcome true x y p q = p refl
 as_if A outcome false x y p q = q
 

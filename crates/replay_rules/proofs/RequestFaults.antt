@@ -6,7 +6,7 @@ use Rattle.field_grammar.specs.declared.fault.FieldFault.{FieldFault}
 use Rattle.field_grammar.specs.declared.fault.FieldFault.TheVariants as fields
 use Rattle.field_grammar.specs.Fields.{judged_short, number, raw}
 use Rattle.field_grammar.specs.Grammar.{IsBytes, check, expected, left, pair, prefix, renamed, sized}
-use Rattle.field_grammar.specs.NumberLaws.{wide1, wide4}
+use Rattle.field_grammar.proofs.NumberLemmas.{wide1, wide4}
 use Rattle.load_base.specs.declared.name.NameFault.{NameFault}
 use Rattle.load_base.specs.Verdicts.{name_fault_of, verdict}
 use Rattle.load_protocol_files.specs.declared.fault.FileFault.{FileFault}

@@ -8,24 +8,24 @@ use Rattle.exchange_trace.specs.declared.trace.Side.{Side}
 use Rattle.exchange_trace.specs.declared.trace.Side.TheVariants as sides
 use Rattle.exchange_trace.specs.Happenings.{Booted, DatagramView, Delivered, Ended, HappeningView, Info_started, Injected, Lost, Power_cut, Size_told, Ticked, Upload_started, is_loader, is_same_side, other}
 use Rattle.exchange_trace.specs.Logs.{Event, Ticks, event_for, gets, logged, loader_log}
-use Rattle.exchange_trace.specs.PostLaws.{port_above_all, port_above_least}
+use Rattle.exchange_trace.proofs.PostLemmas.{port_above_all, port_above_least}
 use Rattle.exchange_trace.specs.Posts.{IsHonest, first_port_after, is_from_own_port, numbered, posted_in}
 use Rattle.exchange_trace.specs.Steps.{Boot_refused, Came_up, Note, Step, Went_down}
-use Rattle.transfer_end.specs.OtherEndLaws.{all_at, own_not_59, was_posted_still}
+use Rattle.transfer_end.proofs.OtherEndLemmas.{all_at, own_not_59, was_posted_still}
 use Rattle.transfer_end.specs.OtherEnds.{MovesStayFair, Among, AreFair, EventWasPosted, IsFair, LastIsPost, PortsFit, all_of}
-use Rattle.transfer_end.specs.ReceivedLaws.{receives_what_was_sent}
+use Rattle.transfer_end.proofs.ReceivedLemmas.{receives_what_was_sent}
 use Rattle.transfer_end.specs.Transfers.{Transfer}
-use Rattle.session_rules.specs.BufferLaws.{SumsJoin}
-use Rattle.session_rules.specs.FairLaws.{loader_gives_media_files, loader_ports_stay, loader_stays_fair, target_ports_stay, target_stays_fair}
+use Rattle.session_rules.proofs.BufferLemmas.{SumsJoin}
+use Rattle.session_rules.proofs.FairLemmas.{loader_gives_media_files, loader_ports_stay, loader_stays_fair, target_ports_stay, target_stays_fair}
 use Rattle.session_rules.specs.LoaderLog.{loader_reading}
-use Rattle.session_rules.specs.ViewLaws.{loader_live}
-use Rattle.replay_rules.specs.BothEnds.{Is_down, Is_up, Setting, TargetState, come_up, gone_down, loader_at, noted, reached, target_at}
-use Rattle.replay_rules.specs.ChangeLaws.{posted_bytes}
+use Rattle.session_rules.proofs.ViewLemmas.{loader_live}
+use Rattle.replay_rules.specs.BothEnds.{Is_down, Is_up, Setting, TargetStanding, come_up, gone_down, loader_at, noted, reached, target_at}
+use Rattle.replay_rules.proofs.ChangeLemmas.{posted_bytes}
 use Rattle.replay_rules.specs.Changes.{CarriesBytes}
 use Rattle.replay_rules.specs.Due.{IsBooted, IsCut, MayBeNoted, MayGoDown, due, due_of_loader, due_of_target, goes_down, is_up}
 use Rattle.replay_rules.specs.FaultFree.{IsNoInjection}
 use Rattle.replay_rules.specs.OtherEndTraces.{AllArriveAsSent, ArrivesAsSent, IsUninjected, LoaderGivesMedia, WhatArrivesWasSent, former_at, loader_transfers, over_with, target_transfers, transfers_of}
-use Rattle.replay_rules.specs.TieLaws.{HasLive, target_is_live}
+use Rattle.replay_rules.proofs.TieLemmas.{HasLive, target_is_live}
 
 -- ---- what reaches a side was posted by the other
 
@@ -124,11 +124,11 @@ noted_as up port Ended notes may = may_go_down up port Ended notes may
 -- ---- both sides in a trace
 
 -- of a target that is up
-abbrev pub TargetHas : TargetState → (former : List Transfer) → Type 0
+abbrev pub TargetHas : TargetStanding → (former : List Transfer) → Type 0
 TargetHas (Is_up r) former = LastIsPost sides.Target (all_of r.end former) r.end.last × PortsFit r.end former
 TargetHas (Is_down active interrupted) former = Unit {0}
 
-pub record TargetIsFair (state : TargetState) (former theirs : List Transfer) (posted : List DatagramView) : Type 0 where
+pub record TargetIsFair (state : TargetStanding) (former theirs : List Transfer) (posted : List DatagramView) : Type 0 where
   pub one : IsFair sides.Target sides.Loader (transfers_of state ++ former) theirs posted
   pub other_one : IsFair sides.Loader sides.Target theirs (transfers_of state ++ former) posted
   pub has : TargetHas state former
@@ -146,7 +146,7 @@ module _ (set : Setting) where
   loader_fair moves log (Some e) theirs posted was h = loader_stays_fair moves set.media (loader_reading set.media log) e theirs posted was (loader_live set.media log) (loader_ports_stay set.media log) h
 
   -- what reaches the target
-  target_fair : MovesStayFair → (state : TargetState) (e : Option Event) (former theirs : List Transfer) (posted : List DatagramView) → WasPosted posted sides.Loader e → HasLive state → TargetIsFair state former theirs posted
+  target_fair : MovesStayFair → (state : TargetStanding) (e : Option Event) (former theirs : List Transfer) (posted : List DatagramView) → WasPosted posted sides.Loader e → HasLive state → TargetIsFair state former theirs posted
       → TargetIsFair (reached set e state) former theirs (posted ++ due_of_target set state e)
   target_fair moves (Is_up r) None former theirs posted was live h = none_posted (λ (all : List DatagramView). TargetIsFair (Is_up r) former theirs all) posted h
   target_fair moves (Is_up r) (Some e) former theirs posted was live h =
@@ -156,19 +156,19 @@ module _ (set : Setting) where
   target_fair moves (Is_down active interrupted) (Some e) former theirs posted was live h = none_posted (λ (all : List DatagramView). TargetIsFair (Is_down active interrupted) former theirs all) posted h
 
   -- a life ends
-  gone_fair : (before after : TargetState) (former theirs : List Transfer) (posted : List DatagramView) → TargetIsFair before former theirs posted → TargetIsFair (gone_down before after) (transfers_of before ++ former) theirs posted
+  gone_fair : (before after : TargetStanding) (former theirs : List Transfer) (posted : List DatagramView) → TargetIsFair before former theirs posted → TargetIsFair (gone_down before after) (transfers_of before ++ former) theirs posted
   gone_fair (Is_up r) (Is_up s) former theirs posted h = record { one = h.one; other_one = h.other_one; has = tt }
   gone_fair (Is_up r) (Is_down active interrupted) former theirs posted h = record { one = h.one; other_one = h.other_one; has = tt }
   gone_fair (Is_down active interrupted) after former theirs posted h = record { one = h.one; other_one = h.other_one; has = tt }
 
   -- and another begins, with ports above those of all before
-  new_fair : (before after : TargetState) (first_port sequence : ℕ) (former theirs : List Transfer) (posted : List DatagramView) → 59 < first_port → AllByRecursion (λ (u : Transfer). u.own < first_port) (transfers_of before ++ former)
+  new_fair : (before after : TargetStanding) (first_port sequence : ℕ) (former theirs : List Transfer) (posted : List DatagramView) → 59 < first_port → AllByRecursion (λ (u : Transfer). u.own < first_port) (transfers_of before ++ former)
       → TargetIsFair before former theirs posted → TargetIsFair (come_up first_port sequence (gone_down before after)) (transfers_of before ++ former) theirs posted
   new_fair (Is_up r) (Is_up s) first_port sequence former theirs posted above below h = record { one = h.one; other_one = h.other_one; has = (tt, record { counts = tt; first = above; below = below; rise = h.one.ports }) }
   new_fair (Is_up r) (Is_down active interrupted) first_port sequence former theirs posted above below h = record { one = h.one; other_one = h.other_one; has = (tt, record { counts = tt; first = above; below = below; rise = h.one.ports }) }
   new_fair (Is_down active interrupted) after first_port sequence former theirs posted above below h = record { one = h.one; other_one = h.other_one; has = (tt, record { counts = tt; first = above; below = below; rise = h.one.ports }) }
 
-  noted_fair : (notes : List Note) (port : ℕ) (h : HappeningView) (before after : TargetState) (former theirs : List Transfer) (posted due : List DatagramView) → NotedAs port h notes → (h ≡ Booted → due ≡ [])
+  noted_fair : (notes : List Note) (port : ℕ) (h : HappeningView) (before after : TargetStanding) (former theirs : List Transfer) (posted due : List DatagramView) → NotedAs port h notes → (h ≡ Booted → due ≡ [])
       → 59 < port → AllByRecursion (λ (u : Transfer). u.own < port) (transfers_of before ++ former) → TargetIsFair before former theirs posted → TargetIsFair after former theirs (posted ++ due)
       → TargetIsFair (noted notes before after) (over_with notes (transfers_of before) ++ former) theirs (posted ++ cond (goes_down notes) [] due)
   noted_fair notes port h before after former theirs posted due nothing_noted booted above below was is = is
@@ -196,7 +196,7 @@ own_port_is d poster not_59 = by d.side (d.from == 59) poster refl
     by sides.Target true is e = absurd (not_59 (eqb-true d.from 59 e))
     by sides.Loader b is e = absurd cc
 
-below_next : (set : Setting) (state : TargetState) (former theirs : List Transfer) (steps : List Step) → TargetIsFair state former theirs (posted_in steps) → AllByRecursion (λ (u : Transfer). u.own < first_port_after steps) (transfers_of state ++ former)
+below_next : (set : Setting) (state : TargetStanding) (former theirs : List Transfer) (steps : List Step) → TargetIsFair state former theirs (posted_in steps) → AllByRecursion (λ (u : Transfer). u.own < first_port_after steps) (transfers_of state ++ former)
 below_next set state former theirs steps h = all_from_among (λ (u : Transfer). u.own < first_port_after steps) (transfers_of state ++ former) below
   where
     below : (u : Transfer) → Among u (transfers_of state ++ former) → u.own < first_port_after steps
@@ -218,10 +218,10 @@ pub record TraceIsFair (set : Setting) (steps : List Step) : Type 0 where
 nothing_is_fair : (me them : Side) → IsFair me them [] [] []
 nothing_is_fair me them = record { ports = tt; posts = λ d a is. absurd a; sent = λ t a. absurd a; got = λ t a. absurd a; begun = λ t a. absurd a }
 
-pub no_due_at_boot : (set : Setting) (state : TargetState) (posted : List DatagramView) (h : HappeningView) → h ≡ Booted → due_of_target set state (event_for sides.Target posted h) ≡ []
+pub no_due_at_boot : (set : Setting) (state : TargetStanding) (posted : List DatagramView) (h : HappeningView) → h ≡ Booted → due_of_target set state (event_for sides.Target posted h) ≡ []
 no_due_at_boot set state posted h boots = ap (λ (x : HappeningView). due_of_target set state (event_for sides.Target posted x)) boots ∙ by state
   where
-    by : (state : TargetState) → due_of_target set state None ≡ []
+    by : (state : TargetStanding) → due_of_target set state None ≡ []
     by (Is_up r) = refl
     by (Is_down active interrupted) = refl
 

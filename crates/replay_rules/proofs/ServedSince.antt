@@ -4,8 +4,8 @@ use Rattle.exchange_trace.specs.declared.trace.Side.TheVariants as sides
 use Rattle.exchange_trace.specs.Happenings.{DatagramView}
 use Rattle.exchange_trace.specs.Posts.{posted_in}
 use Rattle.exchange_trace.specs.Steps.{Step}
-use Rattle.transfer_end.specs.OtherEndLaws.{among_left, posted_by}
-use Rattle.transfer_end.specs.OtherEnds.{Among, HasBegun, HasPosted, IsFair, IsPostOf, IsPostOfSide, answered, is_asking, of_refusal, of_transfer, refused, served, unanswered}
+use Rattle.transfer_end.proofs.OtherEndLemmas.{among_left, posted_by}
+use Rattle.transfer_end.specs.OtherEnds.{Among, TransferHasBegun, HasPosted, IsFair, IsPostOf, IsPostOfSide, answered, is_asking, of_refusal, of_transfer, refused, served, unanswered}
 use Rattle.transfer_end.specs.Transfers.{Transfer}
 use Rattle.replay_rules.proofs.NewestStart.{some_is}
 
@@ -55,7 +55,7 @@ module _ (mine theirs then_mine then_theirs : List Transfer) (posted then_posted
     by_post x from (of_transfer y c post) = none_has y c (sym post.port ∙ from)
     by_post x from (of_refusal is_59 bytes) = not_59 (sym from ∙ is_59)
 
-    by_begun : HasBegun posted sides.Loader theirs u → ⊥
+    by_begun : TransferHasBegun posted sides.Loader theirs u → ⊥
     by_begun (served also took) =
         by_post (record { side = sides.Loader; from = took.peer; to = 59; bytes = took.brought.bytes }) (some_is took.peer peer (sym took.bound ∙ same_end))
         (other_one.posts (record { side = sides.Loader; from = took.peer; to = 59; bytes = took.brought.bytes }) took.brought.among refl)

@@ -17,16 +17,16 @@ use Rattle.accept_rules.specs.Permissions.{Accepts}
 use Rattle.session_rules.specs.declared.outcome.FileKind.{FileKind}
 use Rattle.session_rules.specs.declared.outcome.FileKind.TheVariants.{Lci, Lui}
 use Rattle.session_rules.specs.declared.reason.Reason.{Reason}
-use Rattle.session_rules.specs.BufferLaws.{SumsJoin}
+use Rattle.session_rules.proofs.BufferLemmas.{SumsJoin}
 use Rattle.session_rules.specs.LoaderLog.{newest}
 use Rattle.session_rules.specs.Target.{Begins, Continues, Ends, TargetChange, Turns, Turns_without_port, target_decision}
-use Rattle.session_rules.specs.TargetLaws.{FitsChange, HasTurned, after, decision_fits, seen_row, turned_row}
+use Rattle.session_rules.proofs.TargetLemmas.{FitsChange, HasTurned, after, decision_fits, seen_row, turned_row}
 use Rattle.session_rules.specs.TargetLog.{TargetReading, TargetSessionLog, log_turned, reading_turned, reading_without_port, standing_after, standing_in, target_extended, target_reading_changed, target_view, with_done}
 use Rattle.session_rules.specs.TargetRows.{Arriving, Awaits_lur, Gives_denial, Gives_lci, Gives_lui, Over, Reads_file, RowMove, TransferEnd, UploadEnd, WholeRow, Writes_completion, Writes_lcl, Writes_lcs, Writes_progress, Writes_ready, Writes_stop, arriving_of, first_row, row_move, row_view, view_moved, with_bytes}
 use Rattle.session_rules.specs.Uploads.{UploadView}
-use Rattle.replay_rules.specs.BothEnds.{Is_down, Is_up, Setting, TargetState, changed, come_up, gone_down, noted, reached, settled, target_at}
+use Rattle.replay_rules.specs.BothEnds.{Is_down, Is_up, Setting, TargetStanding, changed, come_up, gone_down, noted, reached, settled, target_at}
 use Rattle.replay_rules.specs.Histories.{active_in}
-use Rattle.replay_rules.specs.TieLaws.{HasLive, target_is_live}
+use Rattle.replay_rules.proofs.TieLemmas.{HasLive, target_is_live}
 use Rattle.replay_rules.proofs.RowsFit.{Brings, RowFits, row_fits}
 
 module _ (Asked : List Wanted → Type 0) (Sound : UploadView → Type 0) (Told : Reason → Type 0) where
@@ -121,11 +121,11 @@ module _ (Asked : List Wanted → Type 0) (Sound : UploadView → Type 0) (Told 
   OfIf (Some s) = OfActive s
 
   -- of a target that is up, its live session; and what may be active
-  abbrev pub StateFits : TargetState → Type 0
+  abbrev pub StateFits : TargetStanding → Type 0
   StateFits (Is_up r) = SessionFits Asked Sound Told r.live × OfActive r.active
   StateFits (Is_down active interrupted) = OfActive active × OfIf interrupted
 
-  pub of_active : (state : TargetState) → StateFits state → OfActive (active_in state)
+  pub of_active : (state : TargetStanding) → StateFits state → OfActive (active_in state)
   of_active (Is_up r) h = h.1
   of_active (Is_down active interrupted) h = h.0
 
@@ -144,16 +144,16 @@ module _ (Asked : List Wanted → Type 0) (Sound : UploadView → Type 0) (Told 
       by true = then
       by false = h
 
-  gone_fits : (before after : TargetState) → StateFits before → StateFits after → StateFits (gone_down before after)
+  gone_fits : (before after : TargetStanding) → StateFits before → StateFits after → StateFits (gone_down before after)
   gone_fits (Is_up r) (Is_up s) h then = (h.1, changed_of r.active s.active then.1)
   gone_fits (Is_up r) (Is_down active interrupted) h then = then
   gone_fits (Is_down active interrupted) after h then = h
 
-  come_fits : (first_port sequence : ℕ) (state : TargetState) → StateFits state → StateFits (come_up first_port sequence state)
+  come_fits : (first_port sequence : ℕ) (state : TargetStanding) → StateFits state → StateFits (come_up first_port sequence state)
   come_fits first_port sequence (Is_up r) h = h
   come_fits first_port sequence (Is_down active interrupted) h = (tt, settled_of sequence active interrupted h.0 h.1)
 
-  noted_fits : (notes : List Note) (before after : TargetState) → StateFits before → StateFits after → StateFits (noted notes before after)
+  noted_fits : (notes : List Note) (before after : TargetStanding) → StateFits before → StateFits after → StateFits (noted notes before after)
   noted_fits [] before after h then = then
   noted_fits (Went_down ∷ notes) before after h then = let down = gone_fits before after h then in noted_fits notes (gone_down before after) (gone_down before after) down down
   noted_fits (Came_up first_port sequence ∷ notes) before after h then =
@@ -162,12 +162,12 @@ module _ (Asked : List Wanted → Type 0) (Sound : UploadView → Type 0) (Told 
   noted_fits (Boot_refused fault ∷ notes) before after h then = let down = gone_fits before after h then in noted_fits notes (gone_down before after) (gone_down before after) down down
 
   -- what a transfer brings that is over in a step
-  abbrev pub BringsAt : TargetState → Option Event → Type 0
+  abbrev pub BringsAt : TargetStanding → Option Event → Type 0
   BringsAt (Is_up r) (Some e) = BringsIn Asked Sound Told OfActive set.accepts r.active r.end r.live (target_decision set.accepts (target_view r) e).moves
   BringsAt state e = Unit {0}
 
   module _ (installs : Installs Asked Sound Told OfActive) (none : Asked []) (joins : SumsJoin) where
-    pub reached_fits : (e : Option Event) (state : TargetState) → HasLive state → BringsAt state e → StateFits state → StateFits (reached set e state)
+    pub reached_fits : (e : Option Event) (state : TargetStanding) → HasLive state → BringsAt state e → StateFits state → StateFits (reached set e state)
     reached_fits None (Is_up r) live brings h = h
     reached_fits (Some e) (Is_up r) live brings h = extended_fits Asked Sound Told OfActive installs none joins set.accepts r e live brings h
     reached_fits None (Is_down active interrupted) live brings h = h

@@ -4,12 +4,12 @@ use Rattle.exchange_trace.specs.declared.trace.Side.TheVariants as sides
 use Rattle.exchange_trace.specs.Logs.{Event, Learns, event_for, loader_log}
 use Rattle.exchange_trace.specs.Posts.{posted_in}
 use Rattle.exchange_trace.specs.Steps.{Step}
-use Rattle.transfer_end.specs.OtherEndLaws.{among_left, own_not_59}
+use Rattle.transfer_end.proofs.OtherEndLemmas.{among_left, own_not_59}
 use Rattle.transfer_end.specs.OtherEnds.{Among, MovesStayFair}
 use Rattle.transfer_end.specs.Transfers.{Transfer}
-use Rattle.session_rules.specs.BufferLaws.{SumsJoin}
+use Rattle.session_rules.proofs.BufferLemmas.{SumsJoin}
 use Rattle.session_rules.specs.LoaderLog.{SessionLog}
-use Rattle.replay_rules.specs.BothEnds.{Setting, TargetState, reached, target_at}
+use Rattle.replay_rules.specs.BothEnds.{Setting, TargetStanding, reached, target_at}
 use Rattle.replay_rules.specs.OtherEndTraces.{IsUninjected, former_at, loader_transfers, target_transfers, transfers_of}
 use Rattle.replay_rules.proofs.AnsweredLater.{TookOne, after, all_before, loader_grows_over, one_before, posted_then, took_one}
 use Rattle.replay_rules.proofs.Growing.{GrowsTo, grows_none}
@@ -75,7 +75,7 @@ module _ (joins : SumsJoin) (moves : MovesStayFair) (set : Setting) (s : Step) (
 
       at_start : Among f (transfers_of (target_at set start_at.before) ++ former_at set start_at.before)
       at_start =
-          subst (λ (state : TargetState). Among f (transfers_of state ++ former_at set start_at.before)) (reached_none set (target_at set start_at.before))
+          subst (λ (state : TargetStanding). Among f (transfers_of state ++ former_at set start_at.before)) (reached_none set (target_at set start_at.before))
           (subst (λ (x : Option Event). Among f (transfers_of (reached set x (target_at set start_at.before)) ++ former_at set start_at.before)) (only (only_loader (posted_in start_at.before) start_at.start.given n.own.event start_at.comes))
           (subst (λ (x : List Step). Among f (target_transfers set start_at.start x)) same_before (subst (λ (x : Step). Among f (target_transfers set x before)) same there)))
 

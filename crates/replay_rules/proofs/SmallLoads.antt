@@ -9,13 +9,13 @@ use Rattle.disk_layout.specs.Manifest.{FileFits, LoadEntry, LoadFits}
 use Rattle.disk_layout.specs.declared.manifest.Layout.{Layout}
 use Rattle.disk_layout.specs.declared.manifest.ManifestFile.{ManifestFile}
 use Rattle.exchange_trace.specs.Steps.{Step}
-use Rattle.session_rules.specs.KeptLaws.{with_kept_same}
+use Rattle.session_rules.proofs.KeptLemmas.{with_kept_same}
 use Rattle.session_rules.specs.KeptLoads.{kept_entries, types_of}
 use Rattle.replay_rules.specs.BothEnds.{Setting, target_at}
 use Rattle.replay_rules.specs.Causes.{BeginsSmall, HasFewLoads}
 use Rattle.replay_rules.specs.Changes.{AllStayOrAreNew}
 use Rattle.replay_rules.specs.Histories.{active_in}
-use Rattle.replay_rules.specs.PlacedTraceLaws.{all_append}
+use Rattle.replay_rules.proofs.PlacedTraceLemmas.{all_append}
 use Rattle.replay_rules.proofs.ActiveStays.{active_has}
 use Rattle.replay_rules.proofs.Reasons.{FileSmall, HasText, LoadSmall, UploadSmall, all_kept}
 use Rattle.replay_rules.proofs.SessionRows.{Installs}

@@ -18,33 +18,33 @@ use Rattle.exchange_trace.specs.Logs.{Down, Event, Life, Up, event_for, target_l
 use Rattle.exchange_trace.specs.Posts.{posted_in}
 use Rattle.exchange_trace.specs.Steps.{Step}
 use Rattle.accept_rules.specs.Permissions.{AcceptsPermitted}
-use Rattle.transfer_end.specs.CameLaws.{moves_came}
+use Rattle.transfer_end.proofs.CameLemmas.{moves_came}
 use Rattle.transfer_end.specs.Moves.{past_with}
-use Rattle.transfer_end.specs.OtherEndLaws.{all_at, among_either, among_left}
+use Rattle.transfer_end.proofs.OtherEndLemmas.{all_at, among_either, among_left}
 use Rattle.transfer_end.specs.OtherEnds.{Among, AnswersRequest, BroughtFrom, ComesFromEnd, MovesStayFair, TellsLength, file_sent, is_asking, is_receiving, of_end, of_none}
 use Rattle.transfer_end.specs.Readings.{Reading}
-use Rattle.transfer_end.specs.RfcLaws.{end_is_of_link}
-use Rattle.transfer_end.specs.SentPacketLaws.{read_is_spelled}
+use Rattle.transfer_end.proofs.RfcLemmas.{end_is_of_link}
+use Rattle.transfer_end.proofs.SentPacketLemmas.{read_is_spelled}
 use Rattle.transfer_end.specs.Transfers.{LinkEnd, Reads, Receives, Role, Sends, ServesRead, ServesWrite, Transfer, Writes, arrived_of, begin_of, end_after, end_answer, end_in, end_moved, end_of, error_of, is_received, phase_of}
-use Rattle.session_rules.specs.BufferLaws.{SumsJoin}
+use Rattle.session_rules.proofs.BufferLemmas.{SumsJoin}
 use Rattle.session_rules.specs.Fairness.{IsLoaderRole}
-use Rattle.session_rules.specs.HeardLaws.{target_moves_heard}
+use Rattle.session_rules.proofs.HeardLemmas.{target_moves_heard}
 use Rattle.session_rules.specs.MediaFiles.{Media}
-use Rattle.session_rules.specs.ReadFileLaws.{RequestsAreSpelled, finished_of}
-use Rattle.session_rules.specs.Roles.{HasRole, IsOfView, LiveFits, ReadsFile}
-use Rattle.session_rules.specs.SoundLogLaws.{PayloadsAreBytes, newest_bytes}
+use Rattle.session_rules.proofs.ReadFileLemmas.{RequestsAreSpelled, finished_of}
+use Rattle.session_rules.specs.Roles.{HasRole, IsOfView, LiveFits, RoleReads}
+use Rattle.session_rules.proofs.SoundLogLemmas.{PayloadsAreBytes, newest_bytes}
 use Rattle.session_rules.specs.SoundLogs.{SoundIn}
-use Rattle.session_rules.specs.SoundnessLaws.{HeadersAreSpelled}
+use Rattle.session_rules.proofs.SoundnessLemmas.{HeadersAreSpelled}
 use Rattle.session_rules.specs.Target.{target_decision}
-use Rattle.session_rules.specs.TargetLaws.{HasTurned, after as after_moves, end_stays, seen_row}
+use Rattle.session_rules.proofs.TargetLemmas.{HasTurned, after as after_moves, end_stays, seen_row}
 use Rattle.session_rules.specs.TargetLog.{TargetReading, TargetSessionLog, target_extended, target_view}
 use Rattle.session_rules.specs.TargetRows.{Awaits_lur, Gives_denial, Gives_lci, Gives_lui, Over, Reads_file, RowMove, RowView, Writes_completion, Writes_lcl, Writes_lcs, Writes_progress, Writes_ready, Writes_stop}
 use Rattle.session_rules.specs.Uploads.{next_name}
-use Rattle.replay_rules.specs.BothEnds.{Is_down, Is_up, Setting, TargetState, loader_at, reached, target_at}
-use Rattle.replay_rules.specs.CameTraceLaws.{target_takes}
-use Rattle.replay_rules.specs.CameTraces.{TargetTakes}
+use Rattle.replay_rules.specs.BothEnds.{Is_down, Is_up, Setting, TargetStanding, loader_at, reached, target_at}
+use Rattle.replay_rules.proofs.CameTraceLemmas.{target_takes}
+use Rattle.replay_rules.specs.CameTraces.{LifeTakesWhatCame}
 use Rattle.replay_rules.specs.Causes.{BeginsSmall, HasFewLoads}
-use Rattle.replay_rules.specs.ChangeLaws.{BringsBytes, HasTarget, TargetIsSound, changes_are_new, event_bytes, posted_bytes, target_sound}
+use Rattle.replay_rules.proofs.ChangeLemmas.{BringsBytes, HasTarget, TargetIsSound, changes_are_new, event_bytes, posted_bytes, target_sound}
 use Rattle.replay_rules.specs.Histories.{active_in}
 use Rattle.replay_rules.specs.MediaTraces.{LengthsAreTold}
 use Rattle.replay_rules.specs.OtherEndTraces.{IsUninjected, WhatArrivesWasSent, former_at, loader_transfers, target_transfers, transfers_of}
@@ -176,13 +176,13 @@ error_little (Wrq name o) code bytes is spells = absurd is
 
 -- ---- a file that was read
 
-read_role : (next : List ℕ) (role : Role) → ReadsFile next role → (is_receiving role ≡ true) × (is_asking role ≡ true)
+read_role : (next : List ℕ) (role : Role) → RoleReads next role → (is_receiving role ≡ true) × (is_asking role ≡ true)
 read_role next (Reads name o) is = (refl, refl)
 read_role next (Writes name o file) is = absurd is
 read_role next (ServesRead name o file) is = absurd is
 read_role next (ServesWrite name o) is = absurd is
 
-read_whole : (next : List ℕ) (role : Role) (got : List PacketView) → ReadsFile next role → is_live (phase_of (end_of role got)) ≡ false → code_of (phase_of (end_of role got)) ≡ None → is_received (end_of role got) ≡ true
+read_whole : (next : List ℕ) (role : Role) (got : List PacketView) → RoleReads next role → is_live (phase_of (end_of role got)) ≡ false → code_of (phase_of (end_of role got)) ≡ None → is_received (end_of role got) ≡ true
 read_whole next (Reads name o) got reads over none =
     let end : end_of (Reads name o) got ≡ Receives (receiver_after_all (receiver_asking name o) got) = (end_is_of_link name [] o got).0 in
     ap is_received end ∙ finished_of (receiver_after_all (receiver_asking name o) got).phase (sym (ap (λ (x : LinkEnd). is_live (phase_of x)) end) ∙ over) (sym (ap (λ (x : LinkEnd). code_of (phase_of x)) end) ∙ none)
@@ -220,7 +220,7 @@ module _ (joins : SumsJoin) (moves : MovesStayFair) (spells : HeadersAreSpelled)
       there : Among h.ended (target_transfers set s earlier)
       there =
           subst (λ (x : Option Event). Among h.ended (transfers_of (reached set x (target_at set earlier)) ++ former_at set earlier)) (sym comes)
-          (subst (λ (state : TargetState). Among h.ended (transfers_of (reached set (Some e) state) ++ former_at set earlier)) (sym up)
+          (subst (λ (state : TargetStanding). Among h.ended (transfers_of (reached set (Some e) state) ++ former_at set earlier)) (sym up)
           (subst (λ (end : Reading). Among h.ended (past_with end.live end.past ++ former_at set earlier)) (sym end_is) (among_left h.ended (past_with then.live then.past) (former_at set earlier) (live_too then.live))))
         where
           in_past : Among h.ended then.past
@@ -240,7 +240,7 @@ module _ (joins : SumsJoin) (moves : MovesStayFair) (spells : HeadersAreSpelled)
           by came None brought = absurd brought
           by came (Some port) brought = error_little came.packet code brought.bytes came.is (read_is_spelled brought.bytes came.packet brought.are_bytes brought.spells)
 
-      length_little : (next : List ℕ) → ReadsFile next h.ended.role → error_of h.ended ≡ None → IsLittle (length (arrived_of h.ended))
+      length_little : (next : List ℕ) → RoleReads next h.ended.role → error_of h.ended ≡ None → IsLittle (length (arrived_of h.ended))
       length_little next reads none = by ((arrives set (s ∷ earlier) is).0.at_target h.ended there (read_role next h.ended.role reads).0)
         where
           received : is_received (end_in h.ended) ≡ true
@@ -272,11 +272,11 @@ module _ (joins : SumsJoin) (moves : MovesStayFair) (spells : HeadersAreSpelled)
     bank_little : BeginsSmall set.start → IsLittle set.start.identity.bank
     bank_little small = let bank = small.bank in omega (arith, bank)
 
-    brings_now : (life : Life) (state : TargetState) (e : Option Event) → target_at set earlier ≡ state → event_for sides.Target (posted_in earlier) s.given ≡ e → BringsBytes e → TargetTakes life state → TargetIsSound set life state → BringsAt AllWanted UploadSmall HasText HasSmallLoads set state e
+    brings_now : (life : Life) (state : TargetStanding) (e : Option Event) → target_at set earlier ≡ state → event_for sides.Target (posted_in earlier) s.given ≡ e → BringsBytes e → LifeTakesWhatCame life state → TargetIsSound set life state → BringsAt AllWanted UploadSmall HasText HasSmallLoads set state e
     brings_now (Up first_port log) (Is_up r) (Some e) up comes now (packets, blocks, last) (fit, sound) = λ se live move more h fits small.
         (let d = target_decision set.accepts (target_view r) e in
-        let bank_now : IsLittle r.active.identity.bank = subst (λ (id : Identity). IsLittle id.bank) (sym (subst (λ (state : TargetState). HasTarget set state) up (same_target set earlier))) (bank_little begins) in
-        let few : HasFewLoads r.active = subst (λ (state : TargetState). HasFewLoads (active_in state)) up (active_is_few set begins earlier (changes_are_new joins spells payloads set earlier permits is.carries.1)) in
+        let bank_now : IsLittle r.active.identity.bank = subst (λ (id : Identity). IsLittle id.bank) (sym (subst (λ (state : TargetStanding). HasTarget set state) up (same_target set earlier))) (bank_little begins) in
+        let few : HasFewLoads r.active = subst (λ (state : TargetStanding). HasFewLoads (active_in state)) up (active_is_few set begins earlier (changes_are_new joins spells payloads set earlier permits is.carries.1)) in
         let count : length (entries_of r.active.loads) ≡ length r.active.loads = length-map r.active.loads entry_of in
         let bytes : IsBytes (arrived_of h.ended) = newest_bytes payloads (e ∷ log) (after_moves r.end d.moves) h.ended (now, fit) (moves_came sides.Target e log r.end d.moves (target_moves_heard set.accepts (target_view r) e) packets) h.is_newest in
         row_brings spells requests set.accepts (outline_of r.active) bank_now small (omega (arith, few, count)) (arrived_of h.ended) bytes (seen_row se) (error_of h.ended) (code_little r e up comes se move more h)

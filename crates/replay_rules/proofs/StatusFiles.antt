@@ -7,10 +7,10 @@ use Rattle.std.proofs.lemmas.List.{take_all}
 use Rattle.std.proofs.lemmas.List.Elements.{All-from_recursion}
 use Rattle.std.proofs.Math.Nat.{div-le_of_le-mul}
 use Rattle.field_grammar.specs.Answers.{answer}
-use Rattle.field_grammar.specs.ExactLaws.{answer-spelled, spelled_at_start}
+use Rattle.field_grammar.proofs.ExactLemmas.{answer-spelled, spelled_at_start}
 use Rattle.field_grammar.specs.Fields.{number_bytes}
-use Rattle.field_grammar.specs.NumberLaws.{length_number_bytes}
-use Rattle.field_grammar.specs.WrittenLaws.{at_most_each}
+use Rattle.field_grammar.proofs.NumberLemmas.{length_number_bytes}
+use Rattle.field_grammar.proofs.WrittenLemmas.{at_most_each}
 use Rattle.load_base.specs.Text.{IsText}
 use Rattle.load_protocol_files.specs.declared.fault.FileFault.{FileFault}
 use Rattle.load_protocol_files.specs.declared.lur.Wanted.{Wanted}
@@ -18,9 +18,9 @@ use Rattle.load_protocol_files.specs.declared.lus.LoadStatus.{LoadStatus}
 use Rattle.load_protocol_files.specs.Files.{file_fields}
 use Rattle.load_protocol_files.specs.Lur.{WantedFits}
 use Rattle.load_protocol_files.specs.Lus.{LoadStatusFits, LusFits, LusSpells, LusView, counts_fields, load_status_fields, lus, lus_fields, progress_fields}
-use Rattle.load_protocol_files.specs.LusLaws.{lus_is_small}
+use Rattle.load_protocol_files.specs.Laws.Lus.{lus_is_small}
 use Rattle.load_protocol_files.specs.Pieces.{counted_fields, ratio_digits}
-use Rattle.part_number.specs.VerdictLaws.{part_size}
+use Rattle.part_number.proofs.VerdictLemmas.{part_size}
 use Rattle.session_rules.specs.declared.outcome.FileKind.{FileKind}
 use Rattle.session_rules.specs.declared.outcome.Outcome.TheVariants.{BadFile, Completed, TargetStopped}
 use Rattle.session_rules.specs.declared.reason.Reason.{Reason}

@@ -6,17 +6,17 @@ use Rattle.exchange_trace.specs.declared.trace.Side.TheVariants as sides
 use Rattle.exchange_trace.specs.Logs.{Event, event_for, loader_log}
 use Rattle.exchange_trace.specs.Posts.{posted_in}
 use Rattle.exchange_trace.specs.Steps.{Step}
-use Rattle.transfer_end.specs.OtherEndLaws.{all_at, among_either, among_left, among_right}
+use Rattle.transfer_end.proofs.OtherEndLemmas.{all_at, among_either, among_left, among_right}
 use Rattle.transfer_end.specs.OtherEnds.{Among, AnswersRequest, MovesStayFair, OwnPortsRise, is_asking}
 use Rattle.transfer_end.specs.Transfers.{Reads, Role, ServesRead, ServesWrite, Transfer, Writes}
 use Rattle.session_rules.specs.declared.outcome.Outcome.{Outcome}
-use Rattle.session_rules.specs.BufferLaws.{SumsJoin}
+use Rattle.session_rules.proofs.BufferLemmas.{SumsJoin}
 use Rattle.session_rules.specs.Loader.{Start}
 use Rattle.session_rules.specs.LoaderLog.{SessionLog}
 use Rattle.session_rules.specs.LoaderRoles.{IsNoError, WritesLur, loader_row}
 use Rattle.session_rules.specs.LoaderRows.{LoaderRow, Serves_files, Takes_lus}
 use Rattle.session_rules.specs.OwnSessions.{HasComeTo, RequestWritten}
-use Rattle.replay_rules.specs.BothEnds.{Setting, TargetState, reached, target_at}
+use Rattle.replay_rules.specs.BothEnds.{Setting, TargetStanding, reached, target_at}
 use Rattle.replay_rules.specs.OtherEndTraces.{IsUninjected, former_at, loader_transfers, target_transfers, transfers_of}
 use Rattle.replay_rules.proofs.AnsweredLater.{after, answer_rises, answers_rise, posted_then}
 use Rattle.replay_rules.proofs.Arrived.{EndedByTarget}
@@ -77,7 +77,7 @@ module _ (joins : SumsJoin) (moves : MovesStayFair) (set : Setting) (s : Step) (
   fair = after joins moves set s earlier is
 
   pub target_is : target_transfers set s earlier ≡ transfers_of (target_at set earlier) ++ former_at set earlier
-  target_is = ap (λ (state : TargetState). transfers_of state ++ former_at set earlier) (ap (λ (x : Option Event). reached set x (target_at set earlier)) h.alone ∙ reached_none set (target_at set earlier))
+  target_is = ap (λ (state : TargetStanding). transfers_of state ++ former_at set earlier) (ap (λ (x : Option Event). reached set x (target_at set earlier)) h.alone ∙ reached_none set (target_at set earlier))
 
   pub target_rises : OwnPortsRise (over.newer ++ h.other ∷ over.earlier)
   target_rises = subst OwnPortsRise (target_is ∙ over.split) fair.one.ports

@@ -9,16 +9,16 @@ use Rattle.exchange_trace.specs.Steps.{Step}
 use Rattle.transfer_end.specs.OtherEnds.{MoveHasRole}
 use Rattle.transfer_end.specs.Transfers.{Reads, Role, ServesRead, ServesWrite, Transfer, Writes}
 use Rattle.session_rules.specs.declared.reason.Reason.{Reason}
-use Rattle.session_rules.specs.BufferLaws.{SumsJoin}
+use Rattle.session_rules.proofs.BufferLemmas.{SumsJoin}
 use Rattle.session_rules.specs.NewConfigs.{stopped_by, verdict_in}
 use Rattle.session_rules.specs.Reports.{stopped_lus}
 use Rattle.session_rules.specs.Target.{target_decision}
 use Rattle.session_rules.specs.TargetLog.{TargetReading, TargetSessionLog, target_extended, target_view}
 use Rattle.session_rules.specs.TargetRows.{UploadEnd, WholeRow, Writes_stop, row_view}
-use Rattle.replay_rules.specs.BothEnds.{Is_up, Setting, TargetState, reached, target_at}
-use Rattle.replay_rules.specs.ChangeLaws.{HasTarget}
+use Rattle.replay_rules.specs.BothEnds.{Is_up, Setting, TargetStanding, reached, target_at}
+use Rattle.replay_rules.proofs.ChangeLemmas.{HasTarget}
 use Rattle.replay_rules.specs.OtherEndTraces.{former_at, target_transfers, transfers_of}
-use Rattle.replay_rules.specs.TieLaws.{HasLive, target_is_live}
+use Rattle.replay_rules.proofs.TieLemmas.{HasLive, target_is_live}
 use Rattle.replay_rules.proofs.BegunSessions.{BegunRow, HasBegunBy, SessionBegun, StateBegun, begun_before, reached_begun, state_begun}
 use Rattle.replay_rules.proofs.EachBefore.{AllOver, NewOver, newest_then, roles_mapped, trace_over}
 use Rattle.replay_rules.proofs.ListedTraces.{same_target}
@@ -81,10 +81,10 @@ module _ (joins : SumsJoin) (set : Setting) (hw : BeginsWell set.start.identity.
     then = target_extended set.accepts r e
 
     state_is : target_at set (quiet_step ∷ steps) ≡ Is_up then
-    state_is = ap (λ (state : TargetState). reached set (event_for sides.Target (posted_in steps) given) state) up ∙ ap (λ (x : Option Event). reached set x (Is_up r)) comes
+    state_is = ap (λ (state : TargetStanding). reached set (event_for sides.Target (posted_in steps) given) state) up ∙ ap (λ (x : Option Event). reached set x (Is_up r)) comes
 
     was_live : HasLive (Is_up r)
-    was_live = subst (λ (state : TargetState). HasLive state) up (target_is_live joins set steps)
+    was_live = subst (λ (state : TargetStanding). HasLive state) up (target_is_live joins set steps)
 
     was_placed : StatePlaced (Is_up r)
     was_placed = subst StatePlaced up (state_placed set joins steps)
@@ -111,7 +111,7 @@ module _ (joins : SumsJoin) (set : Setting) (hw : BeginsWell set.start.identity.
           reason = h.reason;
           upload = h.upload;
           split = refl;
-          fails = subst (λ (state : TargetState). FailsFor state h.session h.reason) (sym state_is) (h.live, ap verdict_in h.row ∙ ap stopped_by h.why);
+          fails = subst (λ (state : TargetStanding). FailsFor state h.session h.reason) (sym state_is) (h.live, ap verdict_in h.row ∙ ap stopped_by h.why);
           writes = h.writes;
           newest = t;
           transfers = newest_then set given posts steps r e t up comes live;
@@ -131,7 +131,7 @@ module _ (joins : SumsJoin) (set : Setting) (hw : BeginsWell set.start.identity.
   begins given posts steps r e up comes fact =
       roles_mapped (TellsCause set.accepts r e) (NewOver (StopsOver set (record { given = given; posts = posts; notes = [] } ∷ steps)) (former_at set steps) (target_extended set.accepts r e).end)
       (stops_over given posts steps r e up comes) _
-      (moves_tell joins set.accepts r e (subst (λ (state : TargetState). HasLive state) up (target_is_live joins set steps)) (hardware_at set r hw (subst (λ (state : TargetState). HasTarget set state) up (same_target set steps))))
+      (moves_tell joins set.accepts r e (subst (λ (state : TargetStanding). HasLive state) up (target_is_live joins set steps)) (hardware_at set r hw (subst (λ (state : TargetStanding). HasTarget set state) up (same_target set steps))))
 
   -- whatever comes to the target
   pub target_stops_over : (steps : List Step) → AllOver (StopsOver set steps) (transfers_of (target_at set steps) ++ former_at set steps)

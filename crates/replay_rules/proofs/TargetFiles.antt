@@ -21,13 +21,13 @@ use Rattle.session_rules.specs.declared.outcome.FileKind.{FileKind}
 use Rattle.session_rules.specs.declared.outcome.FileKind.TheVariants as kinds
 use Rattle.session_rules.specs.declared.reason.Reason.{Reason}
 use Rattle.session_rules.specs.declared.reason.Reason.TheVariants as reasons
-use Rattle.session_rules.specs.BufferLaws.{SumsJoin}
-use Rattle.session_rules.specs.FairLaws.{target_moves_fit}
+use Rattle.session_rules.proofs.BufferLemmas.{SumsJoin}
+use Rattle.session_rules.proofs.FairLemmas.{target_moves_fit}
 use Rattle.session_rules.specs.Fairness.{IsTargetRole}
 use Rattle.replay_rules.proofs.FilesInRows.{IsAskedByRow, IsAskedSo, moves_asked}
 use Rattle.session_rules.specs.Reports.{accepting_lui, completed_lus, denying_lui, lci_file, lcl_file, lcs_file, progress_lus, ready_lus, reason_text, stopped_lus}
 use Rattle.session_rules.specs.Target as target
-use Rattle.session_rules.specs.TargetLaws.{seen_row}
+use Rattle.session_rules.proofs.TargetLemmas.{seen_row}
 use Rattle.session_rules.specs.TargetLog.{TargetReading, TargetSessionLog, target_extended, target_view}
 use Rattle.session_rules.specs.TargetRows as rows
 use Rattle.session_rules.specs.TargetRows.{Arriving, Awaits_lur, Breaks_off, Gives_denial, Gives_lci, Gives_lui, Judges, Over, Passes, Reads_file, Refuses_request, Requests, RowMove, RowView, UploadEnd, WholeRow, Writes_completion, Writes_lcl, Writes_lcs, Writes_progress, Writes_ready, Writes_stop, placed_view, placed_view_if, row_view, view_judged, view_judged_in, view_moved, with_file_view, with_header_view}

@@ -19,7 +19,7 @@ use Rattle.session_rules.specs.declared.outcome.FileKind.{FileKind}
 use Rattle.session_rules.specs.declared.outcome.FileKind.TheVariants.{Lci, Lui, Lur}
 use Rattle.session_rules.specs.declared.reason.Reason.{Reason}
 use Rattle.session_rules.specs.Target.{Begins, Continues, Ends, TargetChange, TargetDecision, TargetSession, TargetView, Turns, Turns_without_port, answer_decision, doing, got_decision, is_over, next_decision, own_decision, own_name, read_decision, request_decision, row_request, target_decision, tick_decision, transfer_decision, turn_decision, without_port, write_decision, write_in}
-use Rattle.session_rules.specs.TargetLaws.{after, seen_row, turned_view}
+use Rattle.session_rules.proofs.TargetLemmas.{after, seen_row, turned_view}
 use Rattle.session_rules.specs.TargetLog.{TargetReading, TargetSessionLog, session_view, target_view}
 use Rattle.session_rules.specs.TargetRows.{Awaits_lur, Gives_denial, Gives_lci, Gives_lui, Over, Reads_file, RowMove, RowView, Writes_completion, Writes_lcl, Writes_lcs, Writes_progress, Writes_ready, Writes_stop, arriving_of, row_move, view_moved, with_bytes}
 

@@ -10,15 +10,15 @@ use Rattle.exchange_trace.specs.Posts.{posted_in}
 use Rattle.exchange_trace.specs.Steps.{Step}
 use Rattle.transfer_end.specs.OtherEnds.{Among, MoveHasRole}
 use Rattle.transfer_end.specs.Transfers.{Reads, Role, ServesRead, ServesWrite, Transfer, Writes}
-use Rattle.session_rules.specs.BufferLaws.{SumsJoin}
+use Rattle.session_rules.proofs.BufferLemmas.{SumsJoin}
 use Rattle.session_rules.specs.Reports.{denying_lui}
 use Rattle.session_rules.specs.Target.{target_decision}
 use Rattle.session_rules.specs.TargetLog.{TargetReading, target_extended, target_view}
-use Rattle.replay_rules.specs.BothEnds.{Is_up, Setting, TargetState, target_at}
-use Rattle.replay_rules.specs.ChangeLaws.{HasTarget, has_target}
+use Rattle.replay_rules.specs.BothEnds.{Is_up, Setting, TargetStanding, target_at}
+use Rattle.replay_rules.proofs.ChangeLemmas.{HasTarget, has_target}
 use Rattle.replay_rules.specs.Changes.{AllStayOrAreNew}
 use Rattle.replay_rules.specs.OtherEndTraces.{former_at, transfers_of}
-use Rattle.replay_rules.specs.TieLaws.{HasLive, target_is_live}
+use Rattle.replay_rules.proofs.TieLemmas.{HasLive, target_is_live}
 use Rattle.replay_rules.proofs.EachBefore.{NewOver, over_at, roles_mapped, trace_over}
 use Rattle.replay_rules.proofs.Spent.{AllSpent, step_spent}
 use Rattle.replay_rules.proofs.TargetFiles.{BeginsWell, IsDenial, IsGiven, IsLcsStop, IsStop, TellsCause, moves_tell}
@@ -38,7 +38,7 @@ ident_begins (b ∷ rest) is = record { first = b; rest = rest; is = refl; not_3
 -- ---- what holds of a file
 
 -- a reply that denies is given only where no sequence number is left
-pub record IsReply (state : TargetState) (file : List ℕ) : Type 0 where
+pub record IsReply (state : TargetStanding) (file : List ℕ) : Type 0 where
   pub small : length file ≤ 4294967295
   pub spent : IsDenial file → AllSpent state
   pub no_stop : IsStop file → ⊥
@@ -92,7 +92,7 @@ module _ (joins : SumsJoin) (set : Setting) (hw : BeginsWell set.start.identity.
   begins given posts steps r e up comes changes =
       roles_mapped (TellsCause set.accepts r e) (NewOver (ToldOver set (record { given = given; posts = posts; notes = [] } ∷ steps)) (former_at set steps) (target_extended set.accepts r e).end)
       (λ role h t live. told_role given posts steps r e role up h) _
-      (moves_tell joins set.accepts r e (subst (λ (state : TargetState). HasLive state) up (target_is_live joins set steps)) (hardware_at set r hw (subst (λ (state : TargetState). HasTarget set state) up (has_target set steps changes.1))))
+      (moves_tell joins set.accepts r e (subst (λ (state : TargetStanding). HasLive state) up (target_is_live joins set steps)) (hardware_at set r hw (subst (λ (state : TargetStanding). HasTarget set state) up (has_target set steps changes.1))))
 
   pub told_cause : (steps : List Step) → AllStayOrAreNew set steps → (t : Transfer) → Among t (transfers_of (target_at set steps) ++ former_at set steps) → IsToldCause set steps t.role
   told_cause steps changes t a =

@@ -12,30 +12,30 @@ use Rattle.exchange_trace.specs.Happenings.{Booted, DatagramView, Delivered, End
 use Rattle.exchange_trace.specs.Logs.{Event, Learns, event_for, gets, logged, loader_log}
 use Rattle.exchange_trace.specs.Posts.{numbered, posted_in}
 use Rattle.exchange_trace.specs.Steps.{Step}
-use Rattle.transfer_end.specs.OtherEndLaws.{among_left}
+use Rattle.transfer_end.proofs.OtherEndLemmas.{among_left}
 use Rattle.transfer_end.specs.OtherEnds.{Among, ComesFromEnd, MoveHasRole, MovesStayFair, TellsLength, all_of, file_sent, of_end, of_none}
 use Rattle.transfer_end.specs.Transfers.{Reads, Role, ServesRead, ServesWrite, Transfer, Writes, arrived_of}
 use Rattle.session_rules.specs.declared.outcome.Outcome.TheVariants.{Completed}
 use Rattle.session_rules.specs.declared.outcome.SessionKind.TheVariants.{Upload}
-use Rattle.session_rules.specs.BufferLaws.{SumsJoin}
-use Rattle.session_rules.specs.CompletionLaws.{completed_upload_arrived, target_tells_installed}
+use Rattle.session_rules.proofs.BufferLemmas.{SumsJoin}
+use Rattle.session_rules.proofs.CompletionLemmas.{completed_upload_arrived, target_tells_installed}
 use Rattle.session_rules.specs.Completions.{CompletionArrived, InstallsNow, SaysCompleted, TellsInstalled}
-use Rattle.session_rules.specs.HeardLaws.{loader_takes_what_came}
+use Rattle.session_rules.proofs.HeardLemmas.{loader_takes_what_came}
 use Rattle.session_rules.specs.Loader.{EndedSession}
 use Rattle.session_rules.specs.LoaderLog.{loader_extended, loader_reading, newest}
-use Rattle.session_rules.specs.SoundLogLaws.{PayloadsAreBytes, newest_bytes}
+use Rattle.session_rules.proofs.SoundLogLemmas.{PayloadsAreBytes, newest_bytes}
 use Rattle.session_rules.specs.SoundLogs.{LogIsBytes}
-use Rattle.session_rules.specs.SoundnessLaws.{read_is_spelled}
+use Rattle.session_rules.proofs.SoundnessLemmas.{read_is_spelled}
 use Rattle.session_rules.specs.Target.{target_decision}
 use Rattle.session_rules.specs.TargetLog.{TargetReading, standing_after, target_extended, target_view}
-use Rattle.session_rules.specs.LoaderRoleLaws.{longer}
-use Rattle.replay_rules.specs.BothEnds.{Is_up, Setting, TargetState, changed, loader_at, reached, target_at}
-use Rattle.replay_rules.specs.ChangeLaws.{BringsBytes, bytes_if, got_bytes, numbered_bytes, posted_bytes}
+use Rattle.session_rules.proofs.LoaderRoleLemmas.{longer}
+use Rattle.replay_rules.specs.BothEnds.{Is_up, Setting, TargetStanding, changed, loader_at, reached, target_at}
+use Rattle.replay_rules.proofs.ChangeLemmas.{BringsBytes, bytes_if, got_bytes, numbered_bytes, posted_bytes}
 use Rattle.replay_rules.specs.Changes.{AllCarryBytes, CarriesBytes, InjectsBytes}
 use Rattle.replay_rules.specs.CompletedTraces.{AllBroughtWhereCompleted, CompletedWasBrought, IsToldInTime, TargetTellsInTime, WasBrought}
 use Rattle.replay_rules.specs.Histories.{active_in, brings}
 use Rattle.replay_rules.specs.OtherEndTraces.{AllArriveAsSent, ArrivesAsSent, former_at, loader_transfers, target_transfers, transfers_of}
-use Rattle.replay_rules.specs.TieLaws.{HasLive, target_is_live}
+use Rattle.replay_rules.proofs.TieLemmas.{HasLive, target_is_live}
 use Rattle.replay_rules.proofs.EachBefore.{AllOver, NewOver, over_at, roles_mapped, trace_over}
 use Rattle.replay_rules.proofs.ListedTraces.{among_past, false_is_true, only_loader, reached_none}
 use Rattle.replay_rules.proofs.SentTraces.{what_arrives_was_sent}
@@ -76,7 +76,7 @@ module _ (joins : SumsJoin) (set : Setting) (given : HappeningView) (posts : Lis
     before = earlier;
     new = (target_extended set.accepts r e).active;
     split = refl;
-    brought = ap (λ (state : TargetState). changed (active_in state) (active_in (reached set (event_for sides.Target (posted_in earlier) given) state))) up
+    brought = ap (λ (state : TargetStanding). changed (active_in state) (active_in (reached set (event_for sides.Target (posted_in earlier) given) state))) up
         ∙ ap (λ (x : Option Event). changed r.active (active_in (reached set x (Is_up r)))) comes ∙ changes r.active (target_extended set.accepts r e).active now.loads now.next;
     stays_up = refl;
   }
@@ -95,7 +95,7 @@ module _ (joins : SumsJoin) (set : Setting) where
       → AllByRecursion (MoveHasRole (NewOver (ToldOver set (record { given = given; posts = posts; notes = [] } ∷ steps)) (former_at set steps) (target_extended set.accepts r e).end)) (target_decision set.accepts (target_view r) e).moves
   begins given posts steps r e up comes fact =
       roles_mapped (TellsInstalled set.accepts r e) (NewOver (ToldOver set (record { given = given; posts = posts; notes = [] } ∷ steps)) (former_at set steps) (target_extended set.accepts r e).end)
-      (λ role h t live. told_role joins set given posts steps r e role up comes h) _ (target_tells_installed joins set.accepts r e (subst (λ (state : TargetState). HasLive state) up (target_is_live joins set steps)))
+      (λ role h t live. told_role joins set given posts steps r e role up comes h) _ (target_tells_installed joins set.accepts r e (subst (λ (state : TargetStanding). HasLive state) up (target_is_live joins set steps)))
 
   told_over : (steps : List Step) → AllOver (ToldOver set steps) (transfers_of (target_at set steps) ++ former_at set steps)
   told_over steps = trace_over set (ToldOver set) Fact (λ s before fact. tt) (λ s before role earlier. still_told set s before role) begins steps tt
@@ -151,7 +151,7 @@ module _ (joins : SumsJoin) (payloads : PayloadsAreBytes) (spells : StatusesAreS
       by (of_none none not) = absurd (false_is_true (sym not ∙ h.received))
       by (of_end u b brings) =
           let same : reached set (event_for sides.Target (posted_in earlier) s.given) (target_at set earlier) ≡ target_at set earlier = ap (λ (x : Option Event). reached set x (target_at set earlier)) alone ∙ reached_none set (target_at set earlier) in
-          let there : Among u (transfers_of (target_at set earlier) ++ former_at set earlier) = subst (λ (state : TargetState). Among u (transfers_of state ++ former_at set earlier)) same b in
+          let there : Among u (transfers_of (target_at set earlier) ++ former_at set earlier) = subst (λ (state : TargetStanding). Among u (transfers_of state ++ former_at set earlier)) same b in
           let (v, read, is) = h.says in
           let said : SaysCompleted (arrived_of h.ends.transfer) = (v, spells v (arrived_of h.ends.transfer) fit read, is) in
           still_brought set s earlier (told_file set earlier u.role brings.file brings.sent (λ tells. subst SaysCompleted (brings.whole tells h.received) said) (target_tells_in_time joins set earlier u there))

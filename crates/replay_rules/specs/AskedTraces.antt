@@ -8,10 +8,10 @@ use Rattle.exchange_trace.specs.Happenings.{Upload_started}
 use Rattle.exchange_trace.specs.Steps.{Step}
 use Rattle.accept_rules.specs.Permissions.{AcceptsPermitted}
 use Rattle.session_rules.specs.MediaFiles.{Media}
-use Rattle.replay_rules.specs.BothEnds.{Setting, TargetState, target_at}
+use Rattle.replay_rules.specs.BothEnds.{Setting, TargetStanding, target_at}
 use Rattle.replay_rules.specs.Histories.{IsMadeOf, brings}
 use Rattle.replay_rules.specs.OtherEndTraces.{IsUninjected}
-use Rattle.replay_rules.specs.Promises.{HasParts}
+use Rattle.replay_rules.specs.Promises.{HavePartsAsked}
 
 -- each entry of the media set has a name and a part number, so that a request can tell it
 abbrev pub EntriesFit : Media → Type 0
@@ -19,7 +19,7 @@ EntriesFit media = AllByRecursion (λ (entry : Wanted). WantedFits entry) media.
 
 -- One of these steps started an upload of the parts of the new loads in a configuration, in their order, where the target was in
 -- this state before it.
-pub record IsAskedFor (steps : List Step) (state : TargetState) (brought : StandingView) : Type 0 where
+pub record IsAskedFor (steps : List Step) (state : TargetStanding) (brought : StandingView) : Type 0 where
   pub between : List Step
   pub start : Step
   pub before : List Step
@@ -28,9 +28,9 @@ pub record IsAskedFor (steps : List Step) (state : TargetState) (brought : Stand
   pub parts : List (List ℕ)
   pub split : steps ≡ between ++ start ∷ before
   pub starts : start.given ≡ Upload_started hw pos parts
-  pub asked : IsMadeOf state (HasParts parts) brought
+  pub asked : IsMadeOf state (HavePartsAsked parts) brought
 
-abbrev pub BroughtIsAsked : TargetState → Option StandingView → List Step → Type 0
+abbrev pub BroughtIsAsked : TargetStanding → Option StandingView → List Step → Type 0
 BroughtIsAsked state None earlier = ⊤
 BroughtIsAsked state (Some brought) earlier = IsAskedFor earlier state brought
 

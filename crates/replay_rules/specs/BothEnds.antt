@@ -23,11 +23,11 @@ loader_at set steps = loader_reading set.media (loader_log steps)
 
 -- The target is up, with what its log says; or down, with what was active before, and with what an installation that was
 -- interrupted would have made active.
-pub data TargetState : Type 0 where
-  Is_up : TargetReading → TargetState
-  Is_down : (active : StandingView) → (interrupted : Option StandingView) → TargetState
+pub data TargetStanding : Type 0 where
+  Is_up : TargetReading → TargetStanding
+  Is_down : (active : StandingView) → (interrupted : Option StandingView) → TargetStanding
 
-abbrev pub reached : Setting → Option Event → TargetState → TargetState
+abbrev pub reached : Setting → Option Event → TargetStanding → TargetStanding
 reached set (Some e) (Is_up r) = Is_up (target_extended set.accepts r e)
 reached set e state = state
 
@@ -36,7 +36,7 @@ abbrev pub changed : (before after : StandingView) → Option StandingView
 changed before after = if before.sequence == after.sequence then None else Some after
 
 -- The target goes down in a step that leads it from one state to another.
-abbrev pub gone_down : (before after : TargetState) → TargetState
+abbrev pub gone_down : (before after : TargetStanding) → TargetStanding
 gone_down (Is_up before) (Is_up after) = Is_down before.active (changed before.active after.active)
 gone_down (Is_up before) (Is_down active interrupted) = Is_down active interrupted
 gone_down (Is_down active interrupted) after = Is_down active interrupted
@@ -46,12 +46,12 @@ abbrev pub settled : (sequence : ℕ) → StandingView → Option StandingView �
 settled sequence active None = active
 settled sequence active (Some new) = if sequence == new.sequence then new else active
 
-abbrev pub come_up : (first_port sequence : ℕ) → TargetState → TargetState
+abbrev pub come_up : (first_port sequence : ℕ) → TargetStanding → TargetStanding
 come_up first_port sequence (Is_down active interrupted) = Is_up (new_target_reading first_port (settled sequence active interrupted))
 come_up first_port sequence (Is_up r) = Is_up r
 
 -- what is noted of the target in a step that leads it from one state to another; a boot brings it down first
-abbrev pub noted : List Note → (before after : TargetState) → TargetState
+abbrev pub noted : List Note → (before after : TargetStanding) → TargetStanding
 noted [] before after = after
 noted (Went_down ∷ notes) before after = noted notes (gone_down before after) (gone_down before after)
 noted (Came_up first_port sequence ∷ notes) before after =
@@ -59,7 +59,7 @@ noted (Came_up first_port sequence ∷ notes) before after =
 noted (Boot_refused fault ∷ notes) before after = noted notes (gone_down before after) (gone_down before after)
 
 -- the target after these steps
-abbrev pub target_at : Setting → List Step → TargetState
+abbrev pub target_at : Setting → List Step → TargetStanding
 target_at set [] = Is_up (new_target_reading 1024 set.start)
 target_at set (s ∷ earlier) = noted s.notes (target_at set earlier) (reached set (event_for sides.Target (posted_in earlier) s.given) (target_at set earlier))
 
@@ -68,7 +68,7 @@ target_at set (s ∷ earlier) = noted s.notes (target_at set earlier) (reached s
 abbrev pub loader_waits : Setting → List Step → Bool
 loader_waits set steps = is_some (loader_at set steps).live
 
-abbrev pub waits_in : TargetState → Bool
+abbrev pub waits_in : TargetStanding → Bool
 waits_in (Is_up r) = is_some r.live
 waits_in (Is_down active interrupted) = false
 

@@ -9,7 +9,7 @@ use Rattle.exchange_trace.specs.Posts.{posted_in}
 use Rattle.exchange_trace.specs.Steps.{Step}
 use Rattle.transfer_end.specs.Came.{AcksWhatCame, BlocksCame, LastAcks, PacketsCame}
 use Rattle.transfer_end.specs.Readings.{Reading}
-use Rattle.replay_rules.specs.BothEnds.{Setting, TargetState, Is_up, Is_down, loader_at, target_at}
+use Rattle.replay_rules.specs.BothEnds.{Setting, TargetStanding, Is_up, Is_down, loader_at, target_at}
 use Rattle.replay_rules.specs.Due.{AllDue}
 
 -- The packets of each transfer came, in a datagram that reached the side; a block that was taken came as DATA, and so did
@@ -18,14 +18,14 @@ abbrev pub TakesWhatCame : Side → List Event → Reading → Type 0
 TakesWhatCame side log r = PacketsCame log r × BlocksCame log r × LastAcks side log r.last
 
 -- the target is up with its log since then, or down
-abbrev pub TargetTakes : Life → TargetState → Type 0
-TargetTakes (Up first_port log) (Is_up r) = TakesWhatCame sides.Target log r.end
-TargetTakes Down (Is_down active interrupted) = ⊤
-TargetTakes life state = ⊥
+abbrev pub LifeTakesWhatCame : Life → TargetStanding → Type 0
+LifeTakesWhatCame (Up first_port log) (Is_up r) = TakesWhatCame sides.Target log r.end
+LifeTakesWhatCame Down (Is_down active interrupted) = ⊤
+LifeTakesWhatCame life state = ⊥
 
 -- At every moment of a trace, whatever was delivered, lost, repeated or injected, and wherever the target went down.
 abbrev pub BothTakeWhatCame : Type 0
-BothTakeWhatCame = (set : Setting) (steps : List Step) → TakesWhatCame sides.Loader (loader_log steps) (loader_at set steps).end × TargetTakes (target_life steps) (target_at set steps)
+BothTakeWhatCame = (set : Setting) (steps : List Step) → TakesWhatCame sides.Loader (loader_log steps) (loader_at set steps).end × LifeTakesWhatCame (target_life steps) (target_at set steps)
 
 -- ---- acknowledgements
 

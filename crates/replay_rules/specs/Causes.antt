@@ -19,7 +19,7 @@ use Rattle.session_rules.specs.Loader.{EndedSession}
 use Rattle.session_rules.specs.NewConfigs.{Fails_for, verdict_in}
 use Rattle.session_rules.specs.Reports.{reason_text}
 use Rattle.session_rules.specs.TargetLog.{TargetSessionLog}
-use Rattle.replay_rules.specs.BothEnds.{Is_down, Is_up, Setting, TargetState, loader_at, target_at}
+use Rattle.replay_rules.specs.BothEnds.{Is_down, Is_up, Setting, TargetStanding, loader_at, target_at}
 use Rattle.replay_rules.specs.Histories.{active_at}
 use Rattle.replay_rules.specs.ListTraces.{AllCanBeListed, OwnFilesAreNamed}
 use Rattle.replay_rules.specs.MediaTraces.{LengthsAreTold}
@@ -29,12 +29,12 @@ use Rattle.replay_rules.specs.OwnSessionTraces.{NoneStarts}
 -- ---- how a session ended
 
 -- an outcome that comes from a file which arrived
-abbrev pub IsOfFile : Outcome → Type 0
-IsOfFile Completed = ⊤
-IsOfFile (Denied text) = ⊤
-IsOfFile (TargetStopped text) = ⊤
-IsOfFile (BadFile kind offset) = ⊤
-IsOfFile outcome = ⊥
+abbrev pub IsOutcomeOfFile : Outcome → Type 0
+IsOutcomeOfFile Completed = ⊤
+IsOutcomeOfFile (Denied text) = ⊤
+IsOutcomeOfFile (TargetStopped text) = ⊤
+IsOutcomeOfFile (BadFile kind offset) = ⊤
+IsOutcomeOfFile outcome = ⊥
 
 -- The session ended in one of these steps: those before it, the newest first, had ended then, and no other.
 pub record EndedInStep (set : Setting) (steps : List Step) (session : EndedSession) (before : List EndedSession) : Type 0 where
@@ -47,7 +47,7 @@ pub record EndedInStep (set : Setting) (steps : List Step) (session : EndedSessi
 
 -- Each session whose outcome comes from a file ended in a step of the run, once those before it had.
 abbrev pub SessionsEndInSteps : Type 0
-SessionsEndInSteps = (set : Setting) (steps : List Step) (newer : List EndedSession) (session : EndedSession) (before : List EndedSession) → (loader_at set steps).ended ≡ newer ++ session ∷ before → IsOfFile session.outcome
+SessionsEndInSteps = (set : Setting) (steps : List Step) (newer : List EndedSession) (session : EndedSession) (before : List EndedSession) → (loader_at set steps).ended ≡ newer ++ session ∷ before → IsOutcomeOfFile session.outcome
     → EndedInStep set steps session before
 
 -- a session ended in the newest step, and came to this
@@ -59,12 +59,12 @@ pub record EndsAs (set : Setting) (s : Step) (earlier : List Step) (outcome : Ou
 -- ---- denied
 
 -- no sequence number is left after that of the configuration
-abbrev pub IsSpent : StandingView → Type 0
-IsSpent active = 4294967295 ≤ active.sequence
+abbrev pub IsSequenceSpent : StandingView → Type 0
+IsSequenceSpent active = 4294967295 ≤ active.sequence
 
 -- The target denied it since no sequence number was left, and what is active has the last one; the text is that reason.
 pub record IsDeniedForSequence (set : Setting) (steps : List Step) (text : List ℕ) : Type 0 where
-  pub spent : IsSpent (active_at set steps)
+  pub spent : IsSequenceSpent (active_at set steps)
   pub tells : text ≡ reason_text SequenceSpent
 
 abbrev pub DeniedWhereSpent : Setting → Step → List Step → Type 0
@@ -83,7 +83,7 @@ DenialsAreForSequence = (set : Setting) (steps : List Step) → AcceptsPermitted
 -- ---- stopped
 
 -- this is the target's live session, and the verdict on what arrived in it is that it fails for this reason
-abbrev pub FailsFor : TargetState → TargetSessionLog → Reason → Type 0
+abbrev pub FailsFor : TargetStanding → TargetSessionLog → Reason → Type 0
 FailsFor (Is_up r) session reason = (r.live ≡ Some session) × (verdict_in session.row ≡ Fails_for reason)
 FailsFor (Is_down active interrupted) session reason = ⊥
 

@@ -14,7 +14,7 @@ use Rattle.accept_rules.specs.Permissions.{AcceptsPermitted}
 use Rattle.session_rules.specs.NewConfigs.{AreGoodAfter}
 use Rattle.session_rules.specs.SoundLogs.{StaysOrIsNew}
 use Rattle.replay_rules.specs.Histories.{IsMadeOf, active_in, brings}
-use Rattle.replay_rules.specs.BothEnds.{Setting, TargetState, Is_up, reached, target_at}
+use Rattle.replay_rules.specs.BothEnds.{Setting, TargetStanding, Is_up, reached, target_at}
 
 -- what datagrams carry are bytes
 abbrev pub CarriesBytes : DatagramView → Type 0
@@ -29,7 +29,7 @@ AllCarryBytes [] = ⊤
 AllCarryBytes (s ∷ earlier) = (AllByRecursion CarriesBytes s.posts × InjectsBytes s.given) × AllCarryBytes earlier
 
 -- What is active at a target that is up stays, or is the new configuration of a good verdict.
-abbrev pub TargetStaysOrIsNew : Setting → (before after : TargetState) → Type 0
+abbrev pub TargetStaysOrIsNew : Setting → (before after : TargetStanding) → Type 0
 TargetStaysOrIsNew set (Is_up before) (Is_up after) = StaysOrIsNew set.accepts before after
 TargetStaysOrIsNew set before after = ⊤
 
@@ -51,7 +51,7 @@ ChangesAreNew = (set : Setting) (steps : List Step) → AcceptsPermitted set.acc
 abbrev pub AreGood : Setting → (before : StandingView) → List LoadView → Type 0
 AreGood set before loads = AreGoodAfter (λ h kept. set.accepts h kept ≡ true) set.start.identity (entries_of before.loads) [] loads
 
-abbrev pub BroughtIsGood : Setting → (before : TargetState) → Option StandingView → Type 0
+abbrev pub BroughtIsGood : Setting → (before : TargetStanding) → Option StandingView → Type 0
 BroughtIsGood set before None = ⊤
 BroughtIsGood set before (Some s) = IsMadeOf before (AreGood set (active_in before)) s
 

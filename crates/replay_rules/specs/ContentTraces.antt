@@ -5,7 +5,7 @@ use Rattle.exchange_trace.specs.Steps.{Step}
 use Rattle.session_rules.specs.Contents.{AreKept, contents_after, contents_of}
 use Rattle.session_rules.specs.Target.{target_after}
 use Rattle.session_rules.specs.TargetLog.{TargetReading, target_extended, target_view}
-use Rattle.replay_rules.specs.BothEnds.{Is_down, Is_up, Setting, TargetState, target_at}
+use Rattle.replay_rules.specs.BothEnds.{Is_down, Is_up, Setting, TargetStanding, target_at}
 
 -- What a target keeps is of what there is by its log; both change with each event as the target decides.
 pub record FollowsItsLog (set : Setting) (r : TargetReading) : Type 0 where
@@ -13,7 +13,7 @@ pub record FollowsItsLog (set : Setting) (r : TargetReading) : Type 0 where
   pub view : (e : Event) → target_view (target_extended set.accepts r e) ≡ target_after set.accepts (target_view r) e
   pub contents : (e : Event) → contents_of (target_extended set.accepts r e) ≡ contents_after set.accepts (target_view r) e (contents_of r)
 
-abbrev pub ContentsFollowAt : Setting → TargetState → Type 0
+abbrev pub ContentsFollowAt : Setting → TargetStanding → Type 0
 ContentsFollowAt set (Is_up r) = FollowsItsLog set r
 ContentsFollowAt set (Is_down active interrupted) = ⊤
 

@@ -7,13 +7,13 @@ use Rattle.exchange_trace.specs.Posts.{posted_in, first_port_after}
 use Rattle.exchange_trace.specs.Steps.{Step, Note, Went_down, Came_up, Boot_refused}
 use Rattle.session_rules.specs.LoaderLog.{LoaderReading, loader_due}
 use Rattle.session_rules.specs.TargetLog.{target_due}
-use Rattle.replay_rules.specs.BothEnds.{Setting, TargetState, Is_up, Is_down, loader_at, target_at}
+use Rattle.replay_rules.specs.BothEnds.{Setting, TargetStanding, Is_up, Is_down, loader_at, target_at}
 
 abbrev pub due_of_loader : Setting → LoaderReading → Option Event → List DatagramView
 due_of_loader set r None = []
 due_of_loader set r (Some e) = loader_due set.media r e
 
-abbrev pub due_of_target : Setting → TargetState → Option Event → List DatagramView
+abbrev pub due_of_target : Setting → TargetStanding → Option Event → List DatagramView
 due_of_target set (Is_up r) (Some e) = target_due set.accepts r e
 due_of_target set state e = []
 
@@ -42,7 +42,7 @@ LeavesPower (Power_cut calls pick) = ⊥
 LeavesPower Booted = ⊥
 LeavesPower h = ⊤
 
-abbrev pub is_up : TargetState → Bool
+abbrev pub is_up : TargetStanding → Bool
 is_up (Is_up r) = true
 is_up (Is_down active interrupted) = false
 

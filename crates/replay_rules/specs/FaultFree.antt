@@ -25,7 +25,7 @@ use Rattle.session_rules.specs.NewConfigs.{AreGoodBeside, AreOfMedia, IsWanted}
 use Rattle.session_rules.specs.Uploads.{need_of}
 use Rattle.session_rules.specs.TargetRows.{Writes_completion, WholeRow}
 use Rattle.session_rules.specs.TargetLog.{TargetReading, TargetSessionLog}
-use Rattle.replay_rules.specs.BothEnds.{Setting, TargetState, Is_up, Is_down, loader_at, target_at}
+use Rattle.replay_rules.specs.BothEnds.{Setting, TargetStanding, Is_up, Is_down, loader_at, target_at}
 use Rattle.replay_rules.specs.Histories.{setting_after}
 use Rattle.replay_rules.specs.Runs.{IsQuiet}
 
@@ -62,9 +62,9 @@ pub record IsSmooth (before : ℕ) (s : Step) : Type 0 where
 abbrev pub NewAreCompleted : (before now : List EndedSession) → Type 0
 NewAreCompleted before now = (new : List EndedSession) × (now ≡ new ++ before) × AllByRecursion (λ (s : EndedSession). s.outcome ≡ Completed) new
 
-abbrev pub IsInstalled : WholeRow → Type 0
-IsInstalled (Writes_completion e loads) = ⊤
-IsInstalled row = ⊥
+abbrev pub IsInstalledRow : WholeRow → Type 0
+IsInstalledRow (Writes_completion e loads) = ⊤
+IsInstalledRow row = ⊥
 
 -- what reaches the target is the acknowledgement of the last block of the file that it sends
 abbrev pub IsLastAcknowledgement : TargetReading → Option Event → Type 0
@@ -75,10 +75,10 @@ IsLastAcknowledgement r e = ⊥
 abbrev pub EndsInstalled : TargetReading → Option Event → (before after : Option TargetSessionLog) → Type 0
 EndsInstalled r e None after = ⊤
 EndsInstalled r e (Some s) (Some next) = ⊤
-EndsInstalled r e (Some s) None = IsInstalled s.row × IsLastAcknowledgement r e
+EndsInstalled r e (Some s) None = IsInstalledRow s.row × IsLastAcknowledgement r e
 
 -- so it is where this reaches the target
-abbrev pub EndsWell : (before : TargetState) → Option Event → (after : TargetState) → Type 0
+abbrev pub EndsWell : (before : TargetStanding) → Option Event → (after : TargetStanding) → Type 0
 EndsWell (Is_up r) e (Is_up after) = EndsInstalled r e r.live after.live
 EndsWell before e after = ⊥
 
@@ -113,7 +113,7 @@ abbrev pub HasPorts : Reading → (ports : ℕ) → Type 0
 HasPorts r ports = next_port_of r + ports ≤ 65536
 
 -- the target is up, with a sequence number that isn't the last, and with this many ports left
-abbrev pub IsReadyFor : TargetState → (ports : ℕ) → Type 0
+abbrev pub IsReadyFor : TargetStanding → (ports : ℕ) → Type 0
 IsReadyFor (Is_up r) ports = (r.active.sequence < 4294967295) × HasPorts r.end ports
 IsReadyFor (Is_down active interrupted) ports = ⊥
 

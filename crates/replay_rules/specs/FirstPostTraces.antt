@@ -5,7 +5,7 @@ use Rattle.exchange_trace.specs.declared.trace.Side.TheVariants as sides
 use Rattle.exchange_trace.specs.Happenings.{DatagramView, HappeningView, Ticked, is_same_side}
 use Rattle.exchange_trace.specs.Steps.{Step}
 use Rattle.session_rules.specs.FirstPosts.{BlocksInOrder}
-use Rattle.replay_rules.specs.BothEnds.{Is_down, Is_up, Setting, TargetState, loader_at, target_at}
+use Rattle.replay_rules.specs.BothEnds.{Is_down, Is_up, Setting, TargetStanding, loader_at, target_at}
 use Rattle.replay_rules.specs.Due.{AllDue, AllNoted}
 
 abbrev pub is_tick : HappeningView → Bool
@@ -20,7 +20,7 @@ abbrev pub first_posts : Side → List Step → List DatagramView
 first_posts side [] = []
 first_posts side (s ∷ earlier) = first_posts side earlier ++ (if is_tick s.given then [] else posts_of_side side s.posts)
 
-abbrev pub TargetInOrder : List DatagramView → TargetState → Type 0
+abbrev pub TargetInOrder : List DatagramView → TargetStanding → Type 0
 TargetInOrder posts (Is_up r) = BlocksInOrder posts r.end
 TargetInOrder posts (Is_down active interrupted) = ⊤
 

@@ -10,10 +10,10 @@ use Rattle.exchange_trace.specs.Posts.{posted_in}
 use Rattle.exchange_trace.specs.Logs.{event_for}
 use Rattle.session_rules.specs.NewConfigs.{IsWanted, request_in}
 use Rattle.session_rules.specs.TargetLog.{TargetSessionLog, standing_after}
-use Rattle.replay_rules.specs.BothEnds.{Setting, TargetState, Is_up, Is_down, changed, target_at, reached, settled}
+use Rattle.replay_rules.specs.BothEnds.{Setting, TargetStanding, Is_up, Is_down, changed, target_at, reached, settled}
 
 -- the last configuration that is known to be active
-abbrev pub active_in : TargetState → StandingView
+abbrev pub active_in : TargetStanding → StandingView
 active_in (Is_up r) = r.active
 active_in (Is_down active interrupted) = active
 
@@ -30,7 +30,7 @@ setting_after set steps = setting_from set (active_at set steps)
 
 -- All that may be active: after an installation that was interrupted, what was active before it or what it brings, until
 -- the target comes up or the run ends.
-abbrev pub may_be_active : TargetState → List StandingView
+abbrev pub may_be_active : TargetStanding → List StandingView
 may_be_active (Is_up r) = r.active ∷ []
 may_be_active (Is_down active None) = active ∷ []
 may_be_active (Is_down active (Some new)) = active ∷ new ∷ []
@@ -44,7 +44,7 @@ members_of set [] = set.start ∷ []
 members_of set (s ∷ earlier) = with_member (active_at set earlier) (active_at set (s ∷ earlier)) (members_of set earlier)
 
 -- what is active at the end, where this was recovered then
-abbrev pub active_by : TargetState → Option StandingView → StandingView
+abbrev pub active_by : TargetStanding → Option StandingView → StandingView
 active_by (Is_up r) standing = r.active
 active_by (Is_down active interrupted) None = active
 active_by (Is_down active interrupted) (Some s) = settled s.sequence active interrupted
@@ -65,13 +65,13 @@ request_of None = []
 request_of (Some s) = request_in s.row
 
 -- and the target in its live session
-abbrev pub requested_in : TargetState → List Wanted
+abbrev pub requested_in : TargetStanding → List Wanted
 requested_in (Is_up r) = request_of r.live
 requested_in (Is_down active interrupted) = []
 
 -- What is brought, where the target was in this state, is made of new loads, and then of those that are kept of what was active: one
 -- new load for each that the session was asked for, in their order, and this holds of them.
-pub record IsMadeOf (before : TargetState) (New : List LoadView → Type 0) (brought : StandingView) : Type 0 where
+pub record IsMadeOf (before : TargetStanding) (New : List LoadView → Type 0) (brought : StandingView) : Type 0 where
   pub new : List LoadView
   pub wanted : AllZip IsWanted (requested_in before) new
   pub are_new : New new

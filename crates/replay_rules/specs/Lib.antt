@@ -5,14 +5,9 @@ pub mod Runs
 pub mod FaultFree
 pub mod Promises
 pub mod Ties
-pub mod TieLaws
 pub mod PlacedTraces
-pub mod PlacedTraceLaws
 pub mod CameTraces
-pub mod CameTraceLaws
-pub mod CompletedRows
 pub mod Changes
-pub mod ChangeLaws
 pub mod OtherEndTraces
 pub mod ListTraces
 pub mod MediaTraces

@@ -8,7 +8,7 @@ use Rattle.transfer_end.specs.Moves.{past_with}
 use Rattle.transfer_end.specs.OtherEnds.{Among, ComesFromEnd, HaveRoles, all_of, is_receiving}
 use Rattle.transfer_end.specs.Transfers.{Transfer}
 use Rattle.session_rules.specs.Fairness.{IsLoaderRole}
-use Rattle.replay_rules.specs.BothEnds.{Setting, TargetState, Is_up, Is_down, loader_at, reached, target_at}
+use Rattle.replay_rules.specs.BothEnds.{Setting, TargetStanding, Is_up, Is_down, loader_at, reached, target_at}
 use Rattle.replay_rules.specs.Changes.{AllCarryBytes}
 use Rattle.replay_rules.specs.Due.{AllDue, AllNoted}
 use Rattle.replay_rules.specs.FaultFree.{NothingInjected}
@@ -16,7 +16,7 @@ use Rattle.replay_rules.specs.FaultFree.{NothingInjected}
 -- ---- all transfers of a side
 
 -- the transfers of the target since it came up
-abbrev pub transfers_of : TargetState → List Transfer
+abbrev pub transfers_of : TargetStanding → List Transfer
 transfers_of (Is_up r) = past_with r.end.live r.end.past
 transfers_of (Is_down active interrupted) = []
 

@@ -56,23 +56,23 @@ IsStart (Starts_upload hw pos parts) = ⊤
 IsStart event = ⊥
 
 -- By what a session comes to its outcome, where this reaches the loader.
-pub data HasCause (media : Media) (r : LoaderReading) (e : Event) : Outcome → Type 0 where
+pub data OutcomeHasCause (media : Media) (r : LoaderReading) (e : Event) : Outcome → Type 0 where
   -- completed, denied or stopped, or a bad file
-  of_file : (outcome : Outcome) → ComesOfFile r e outcome → HasCause media r e outcome
-  of_error : (code : ℕ) → ComesOfError r e code → HasCause media r e (PeerError code)
+  of_file : (outcome : Outcome) → ComesOfFile r e outcome → OutcomeHasCause media r e outcome
+  of_error : (code : ℕ) → ComesOfError r e code → OutcomeHasCause media r e (PeerError code)
   -- a tick after five retries
-  gave_up : e ≡ Ticks → 5 ≤ r.end.ticks → HasCause media r e GaveUp
-  was_replaced : IsStart e → HasCause media r e Replaced
+  gave_up : e ≡ Ticks → 5 ≤ r.end.ticks → OutcomeHasCause media r e GaveUp
+  was_replaced : IsStart e → OutcomeHasCause media r e Replaced
   -- no port is left to draw
-  no_port : 65536 ≤ next_port_of r.end → HasCause media r e PortsSpent
-  too_many : (hw pos : List ℕ) (parts : List (List ℕ)) → e ≡ Starts_upload hw pos parts → 32 < length parts → HasCause media r e TooMany
-  not_on_media : (hw pos : List ℕ) (parts : List (List ℕ)) (part : List ℕ) → e ≡ Starts_upload hw pos parts → wanted_of media.loads parts ≡ Err part → HasCause media r e (NotOnMedia part)
+  no_port : 65536 ≤ next_port_of r.end → OutcomeHasCause media r e PortsSpent
+  too_many : (hw pos : List ℕ) (parts : List (List ℕ)) → e ≡ Starts_upload hw pos parts → 32 < length parts → OutcomeHasCause media r e TooMany
+  not_on_media : (hw pos : List ℕ) (parts : List (List ℕ)) (part : List ℕ) → e ≡ Starts_upload hw pos parts → wanted_of media.loads parts ≡ Err part → OutcomeHasCause media r e (NotOnMedia part)
 
 -- a session that ends in a step comes so to its outcome, by what reaches the loader in it
 pub record EndsByCause (set : Setting) (s : Step) (earlier : List Step) (session : EndedSession) : Type 0 where
   pub event : Event
   pub reaches : event_for sides.Loader (posted_in earlier) s.given ≡ Some event
-  pub cause : HasCause set.media (loader_at set earlier) event session.outcome
+  pub cause : OutcomeHasCause set.media (loader_at set earlier) event session.outcome
 
 -- so it is of all sessions that end in these steps
 abbrev pub AllEndByCause : Setting → List Step → Type 0

@@ -15,7 +15,7 @@ use Rattle.replay_rules.specs.Due.{goes_down}
 use Rattle.replay_rules.specs.FaultFree.{IsNoStart}
 use Rattle.replay_rules.specs.Histories.{IsMadeOf, active_by, brings, history_of}
 use Rattle.replay_rules.specs.OtherEndTraces.{IsUninjected}
-use Rattle.replay_rules.specs.Promises.{HasCompleted, HasEnded, HasParts}
+use Rattle.replay_rules.specs.Promises.{HasCompleted, HasEnded, HavePartsAsked}
 
 -- ---- installed in its own session
 
@@ -42,7 +42,7 @@ pub record WasInstalledInSession (set : Setting) (steps : List Step) : Type 0 wh
   pub newest : NoneStarts (since ++ install ∷ between)
   pub one : (loader_at set steps).ended ≡ session ∷ (loader_at set (start ∷ before)).ended
   pub brought : brings set install (between ++ start ∷ before) ≡ Some new
-  pub asked : IsMadeOf (target_at set (between ++ start ∷ before)) (HasParts parts) new
+  pub asked : IsMadeOf (target_at set (between ++ start ∷ before)) (HavePartsAsked parts) new
   pub stays_up : goes_down install.notes ≡ false
 
 -- a session that ended in the newest step as a completed upload

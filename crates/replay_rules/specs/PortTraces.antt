@@ -3,7 +3,7 @@ use Rattle.std.specs.Prelude.{ℕ, ◌<◌, List, Option, Some, None, ⊤}
 use Rattle.exchange_trace.specs.Steps.{Step}
 use Rattle.transfer_end.specs.Readings.{Reading, kept_in, mark_of, next_port_of}
 use Rattle.transfer_end.specs.Transfers.{Transfer}
-use Rattle.replay_rules.specs.BothEnds.{Setting, TargetState, Is_up, Is_down, loader_at, target_at}
+use Rattle.replay_rules.specs.BothEnds.{Setting, TargetStanding, Is_up, Is_down, loader_at, target_at}
 use Rattle.replay_rules.specs.OtherEndTraces.{IsUninjected}
 
 abbrev pub IsDrawnBefore : ℕ → Option Transfer → Type 0
@@ -19,7 +19,7 @@ pub record PortsAreApart (loader target : Reading) : Type 0 where
   pub loader_kept : IsDrawnBefore (next_port_of loader) (kept_in loader.past)
   pub target_kept : IsDrawnBefore (next_port_of target) (kept_in target.past)
 
-abbrev pub TargetIsApart : Reading → TargetState → Type 0
+abbrev pub TargetIsApart : Reading → TargetStanding → Type 0
 TargetIsApart loader (Is_up r) = PortsAreApart loader r.end
 TargetIsApart loader (Is_down active interrupted) = ⊤
 

@@ -15,7 +15,7 @@ use Rattle.session_rules.specs.Loader.{EndedSession}
 use Rattle.session_rules.specs.NewConfigs.{AreOfMedia}
 use Rattle.session_rules.specs.TargetRows.{WholeRow, Writes_lcl}
 use Rattle.session_rules.specs.TargetLog.{TargetSessionLog}
-use Rattle.replay_rules.specs.BothEnds.{Setting, TargetState, Is_up, Is_down, loader_at, target_at}
+use Rattle.replay_rules.specs.BothEnds.{Setting, TargetStanding, Is_up, Is_down, loader_at, target_at}
 use Rattle.replay_rules.specs.Due.{AllDue, AllNoted}
 use Rattle.replay_rules.specs.FaultFree.{NothingInjected}
 use Rattle.replay_rules.specs.Histories.{IsMadeOf, brings, may_be_active}
@@ -39,7 +39,7 @@ pub record IsTrace (set : Setting) (steps : List Step) : Type 0 where
 
 -- ---- what is installed are the media set's files
 
-abbrev pub BroughtIsOfMedia : Setting → (before : TargetState) → Option StandingView → List Step → Type 0
+abbrev pub BroughtIsOfMedia : Setting → (before : TargetStanding) → Option StandingView → List Step → Type 0
 BroughtIsOfMedia set before None steps = ⊤
 BroughtIsOfMedia set before (Some s) steps = NothingInjected steps → IsMadeOf before (AreOfMedia set.media) s
 
@@ -58,15 +58,15 @@ abbrev pub SessionWritesList : Option TargetSessionLog → Type 0
 SessionWritesList None = ⊥
 SessionWritesList (Some s) = WritesList s.row
 
-abbrev pub ListIsDue : TargetState → Type 0
+abbrev pub ListIsDue : TargetStanding → Type 0
 ListIsDue (Is_up r) = SessionWritesList r.live
 ListIsDue (Is_down active interrupted) = ⊥
 
 -- ---- completed means installed
 
 -- these loads have the parts that were asked for, in their order
-abbrev pub HasParts : List (List ℕ) → List LoadView → Type 0
-HasParts parts loads = map (λ (load : LoadView). load.part) loads ≡ parts
+abbrev pub HavePartsAsked : List (List ℕ) → List LoadView → Type 0
+HavePartsAsked parts loads = map (λ (load : LoadView). load.part) loads ≡ parts
 
 -- the newest session that ended is a completed one of this kind
 abbrev pub HasCompleted : SessionKind → List EndedSession → Type 0

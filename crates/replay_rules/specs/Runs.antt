@@ -4,11 +4,11 @@ use Rattle.exchange_trace.specs.Following.{FollowsScript, Plan, Scene, plan_afte
 use Rattle.exchange_trace.specs.Lines.{Line}
 use Rattle.exchange_trace.specs.Posts.{undelivered_after}
 use Rattle.exchange_trace.specs.Steps.{Step}
-use Rattle.replay_rules.specs.BothEnds.{Setting, TargetState, Is_up, Is_down, loader_at, target_at, loader_waits, target_waits, waiting}
+use Rattle.replay_rules.specs.BothEnds.{Setting, TargetStanding, Is_up, Is_down, loader_at, target_at, loader_waits, target_waits, waiting}
 
 -- a trace follows a script
-abbrev pub Follows : Setting → List Line → List Step → Type 0
-Follows set script steps = FollowsScript (waiting set) script steps
+abbrev pub TraceFollows : Setting → List Line → List Step → Type 0
+TraceFollows set script steps = FollowsScript (waiting set) script steps
 
 -- what is left of the script, and what decides how it goes on
 abbrev pub plan_at : Setting → List Line → List Step → Plan
@@ -27,7 +27,7 @@ pub record IsQuiet (set : Setting) (steps : List Step) : Type 0 where
 abbrev pub loader_retries : Setting → List Step → ℕ
 loader_retries set steps = (loader_at set steps).end.ticks
 
-abbrev pub retries_in : TargetState → ℕ
+abbrev pub retries_in : TargetStanding → ℕ
 retries_in (Is_up r) = r.end.ticks
 retries_in (Is_down active interrupted) = 0
 

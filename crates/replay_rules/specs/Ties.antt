@@ -11,11 +11,11 @@ use Rattle.session_rules.specs.LoaderLog.{loader_view}
 use Rattle.session_rules.specs.MediaFiles.{Media}
 use Rattle.session_rules.specs.Target.{TargetView, target_posts, target_after}
 use Rattle.session_rules.specs.TargetLog.{target_view}
-use Rattle.replay_rules.specs.BothEnds.{Setting, TargetState, Is_up, Is_down, loader_at, noted, reached, target_at}
+use Rattle.replay_rules.specs.BothEnds.{Setting, TargetStanding, Is_up, Is_down, loader_at, noted, reached, target_at}
 use Rattle.replay_rules.specs.Due.{AllDue, goes_down}
 
 -- a target that is up, by what it keeps
-abbrev pub kept_by : TargetState → Option TargetView
+abbrev pub kept_by : TargetStanding → Option TargetView
 kept_by (Is_up r) = Some (target_view r)
 kept_by (Is_down active interrupted) = None
 
@@ -45,7 +45,7 @@ target_says accepts (Some v) (Some e) = target_posts accepts v e
 target_says accepts v e = []
 
 -- what is kept of the target where this is noted in a step that leads it from one state to another
-abbrev pub kept_after : Setting → List Note → (before after : TargetState) → Option TargetView → Option TargetView
+abbrev pub kept_after : Setting → List Note → (before after : TargetStanding) → Option TargetView → Option TargetView
 kept_after set [] before after v = v
 kept_after set (note ∷ notes) before after v = kept_by (noted (note ∷ notes) before after)
 

@@ -145,8 +145,8 @@ pub fn a_completed_upload_is_installed()
 /// Whatever is delivered, lost, repeated, reordered, delayed or injected in a run, and wherever
 /// power fails, the configuration changes by good verdicts alone: each is the new configuration of
 /// what its session asked for and read, made of loads that are good for the target, and of those
-/// that are kept. So whatever may be active at a moment was active at the start, or each of its loads
-/// was or is checked, and one at least is checked.
+/// that are kept. So whatever may be active at a moment was active at the start, or each of its
+/// loads was or is checked, and one at least is checked.
 pub fn the_configuration_changes_by_good_verdicts()
     ensures changes { ChangesAreNew }
     ensures good { InstallsAreGood }
@@ -163,8 +163,8 @@ pub fn sessions_end_in_steps()
     ensures { SessionsEndInSteps }
 {}
 
-/// Each session that ends in a step of a run comes to its outcome by its cause, whatever comes: by a
-/// file that arrived whole, an ERROR, a tick after five retries, a start, the parts of its own
+/// Each session that ends in a step of a run comes to its outcome by its cause, whatever comes: by
+/// a file that arrived whole, an ERROR, a tick after five retries, a start, the parts of its own
 /// start, or since no port was left.
 pub fn each_session_ends_by_its_cause()
     ensures { OutcomesHaveCauses }

@@ -14,7 +14,7 @@ use Rattle.exchange_trace.specs.Happenings.{DatagramView, HappeningView, datagra
 use Rattle.exchange_trace.specs.Posts.{numbered, port_above, posted_in}
 use Rattle.exchange_trace.specs.Steps.{Boot_refused, Came_up, Note, Step, Went_down, steps_of, with_given, with_line, with_note, with_post}
 use Rattle.replay_turns.specs.Orders.{Happens, IsInOrder, Notes, Posts, SeenLine, lines_of, seen_line}
-use Rattle.replay_turns.specs.Recordings.{HasBegun, HasPlace, IsRecorded, post_of}
+use Rattle.replay_turns.specs.Recordings.{StepHasBegun, HasPlace, IsRecorded, post_of}
 
 -- ---- the steps
 
@@ -29,11 +29,11 @@ posted_noted : (steps : List Step) (note : Note) → posted_in (with_note steps 
 posted_noted [] note = refl
 posted_noted (s ∷ earlier) note = refl
 
-posted_post : (steps : List Step) (d : DatagramView) → HasBegun steps → posted_in (with_post steps d) ≡ posted_in steps ++ d ∷ []
+posted_post : (steps : List Step) (d : DatagramView) → StepHasBegun steps → posted_in (with_post steps d) ≡ posted_in steps ++ d ∷ []
 posted_post [] d begun = absurd begun
 posted_post (s ∷ earlier) d begun = sym (append_assoc (posted_in earlier) s.posts (d ∷ []))
 
-pub still_begun : (steps : List Step) (d : DatagramView) → HasBegun steps → HasBegun (with_post steps d)
+pub still_begun : (steps : List Step) (d : DatagramView) → StepHasBegun steps → StepHasBegun (with_post steps d)
 still_begun [] d begun = absurd begun
 still_begun (s ∷ earlier) d begun = begun
 
@@ -61,7 +61,7 @@ module _ (before : List SeenLine) (given : HappeningView) where
       ∙ (ap (λ (lines : List SeenLine). before ++ Happens given ∷ lines) (sym (append_assoc sent told (Notes n ∷ [])))
       ∙ sym (append_assoc before (Happens given ∷ (sent ++ told)) (Notes n ∷ [])))
 
-note_in_order : (steps : List Step) (n : Note) → HasBegun steps → lines_of (with_note steps n) ≡ lines_of steps ++ Notes n ∷ []
+note_in_order : (steps : List Step) (n : Note) → StepHasBegun steps → lines_of (with_note steps n) ≡ lines_of steps ++ Notes n ∷ []
 note_in_order [] n begun = absurd begun
 note_in_order (s ∷ earlier) n begun = lines_noted (lines_of earlier) s.given s.posts s.notes n
 
@@ -129,7 +129,7 @@ module _ (trace : List TraceStep) (line : TraceStep) where
       }
 
 -- a datagram
-pub posted_on : (trace : List TraceStep) (d : Datagram) (posts : List ℕ) (port next : ℕ) → HasBegun (steps_of trace) → next ≡ port_above port (datagram_view d ∷ []) → next ≤ 65536
+pub posted_on : (trace : List TraceStep) (d : Datagram) (posts : List ℕ) (port next : ℕ) → StepHasBegun (steps_of trace) → next ≡ port_above port (datagram_view d ∷ []) → next ≤ 65536
     → IsRecorded trace posts port → IsRecorded (trace ++ lines.Posted d ∷ []) (posts ++ length trace ∷ []) next
 posted_on trace d posts port next begun is small r =
     let line : TraceStep = lines.Posted d in

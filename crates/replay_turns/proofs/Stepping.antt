@@ -19,19 +19,19 @@ use Rattle.exchange_trace.specs.Steps.{Note, Went_down}
 use Rattle.session_rules.specs.Contents.{TargetContents, contents_after, contents_of}
 use Rattle.session_rules.specs.TargetLog.{target_view}
 use Rattle.load_intake.specs.declared.down.Down.{Down}
-use Rattle.replay_rules.specs.BothEnds.{Is_down, Is_up, Setting, TargetState, noted, reached}
+use Rattle.replay_rules.specs.BothEnds.{Is_down, Is_up, Setting, TargetStanding, noted, reached}
 use Rattle.replay_rules.specs.Due.{IsBooted}
 use Rattle.replay_rules.specs.Ties.{target_next}
 use Rattle.target_machine.specs.Decisions as machine
-use Rattle.target_machine.specs.DiskLaws.{learns_on}
+use Rattle.target_machine.proofs.DiskLemmas.{learns_on}
 use Rattle.target_machine.specs.Disks.{KeepsDisk}
 use Rattle.replay_turns.specs.declared.powering.PowerNote.{PowerNote}
 use Rattle.replay_turns.specs.declared.powering.PowerNote.TheVariants as power
 use Rattle.replay_turns.specs.Targets.{TargetTurns}
 use Rattle.replay_turns.specs.StepsOnDisks.{AddsInStep, BeginsStep, BootIsTold, HasBooted, HasContents, HoldsRun, LeavesNoMore, StepsOn, WorksOn, contents_then}
 use Rattle.replay_turns.specs.Turns.{TargetTakes, notes_of, target_kept}
-use Rattle.replay_turns.specs.BootLaws.{down_as, down_holds, noted_down}
-use Rattle.replay_turns.specs.StepLaws.{gone_keeps_none, adds_no_image, adds_nothing, adds_up, arms_holds, arms_no_more, both_no_more, gone_holds, has, reads_no_more, restart_no_more, up_holds}
+use Rattle.replay_turns.proofs.BootLemmas.{down_as, down_holds, noted_down}
+use Rattle.replay_turns.proofs.StepLemmas.{gone_keeps_none, adds_no_image, adds_nothing, adds_up, arms_holds, arms_no_more, both_no_more, gone_holds, has, reads_no_more, restart_no_more, up_holds}
 
 -- ---- what a target keeps where no call of the disk is made
 
@@ -57,27 +57,27 @@ learns_keeps accepts size target after disk c x same has = rw same (record {
 module _ {S R : Type 0} (may_say : R → LoadHeader → List KeptLoad → Bool → Type 0) (set : Setting) (e : Option Event) (slot : Option (machine.TargetState R)) (t after : machine.TargetState R) (old new : DiskState) (result : Result S Down) (is : slot ≡ Some t)
     (now : (image : Image) → old.reads ≡ Some image → old.now image) (goes : TimeGoesOn old new)
     (keeps : (c : TargetContents) → HasContents t old c → KeepsDisk old after.store new c (contents_then set.accepts t.view e c) result) where
-  begun : (state : TargetState) → BeginsStep may_say set state slot old → BeginsStep may_say set state (Some t) old
+  begun : (state : TargetStanding) → BeginsStep may_say set state slot old → BeginsStep may_say set state (Some t) old
   begun state begins = subst (λ (o : Option (machine.TargetState R)). BeginsStep may_say set state o old) is begins
 
-  adds_in : (state : TargetState) → BeginsStep may_say set state (Some t) old → AddsInStep set e state old new
+  adds_in : (state : TargetStanding) → BeginsStep may_say set state (Some t) old → AddsInStep set e state old new
   adds_in (Is_up r) begins =
       let keep = keeps (contents_of r) (has set e r t after old new result begins.follow begins.holds goes) in
       let was = begins.holds.works.beside in
       adds_up set e r t after old new result begins.follow begins.holds goes keep was.image (now was.image was.told)
   adds_in (Is_down active interrupted) begins = absurd (let wrong : Some t.view ≡ None = begins.holds.kept in cc)
 
-  pub took_adds : (state : TargetState) → BeginsStep may_say set state slot old → AddsInStep set e state old new
+  pub took_adds : (state : TargetStanding) → BeginsStep may_say set state slot old → AddsInStep set e state old new
   took_adds state begins = adds_in state (begun state begins)
 
   -- and answers
-  holds_in : (y : S) → result ≡ Ok y → Some after.view ≡ target_next set.accepts (Some t.view) e → (state : TargetState) → BeginsStep may_say set state (Some t) old → HoldsRun set (reached set e state) (Some after) new
+  holds_in : (y : S) → result ≡ Ok y → Some after.view ≡ target_next set.accepts (Some t.view) e → (state : TargetStanding) → BeginsStep may_say set state (Some t) old → HoldsRun set (reached set e state) (Some after) new
   holds_in y ok next (Is_up r) begins =
       let keep = rw ok at (keeps (contents_of r) (has set e r t after old new result begins.follow begins.holds goes)) in
       up_holds set e r t after old new begins.follow begins.holds goes next keep.holds keep.alone
   holds_in y ok next (Is_down active interrupted) begins = absurd (let wrong : Some t.view ≡ None = begins.holds.kept in cc)
 
-  pub took_steps : {T : Type 0} (E : Type 0) (y : S) (x : T) (notes : T → List Note) → result ≡ Ok y → Some after.view ≡ target_next set.accepts (Some t.view) e → notes x ≡ [] → (state : TargetState) → BeginsStep may_say set state slot old
+  pub took_steps : {T : Type 0} (E : Type 0) (y : S) (x : T) (notes : T → List Note) → result ≡ Ok y → Some after.view ≡ target_next set.accepts (Some t.view) e → notes x ≡ [] → (state : TargetStanding) → BeginsStep may_say set state slot old
       → StepsOn {E = E} set e state (Some after) notes old new (Ok x)
   took_steps E y x notes ok next none state begins = record {
     adds = took_adds state begins;
@@ -86,7 +86,7 @@ module _ {S R : Type 0} (may_say : R → LoadHeader → List KeptLoad → Bool �
   }
 
   -- or goes down
-  pub down_steps : {T : Type 0} (E : Type 0) (gone : Option (machine.TargetState R)) (x : T) (notes : T → List Note) → gone ≡ None → notes x ≡ Went_down ∷ [] → (state : TargetState) → BeginsStep may_say set state slot old
+  pub down_steps : {T : Type 0} (E : Type 0) (gone : Option (machine.TargetState R)) (x : T) (notes : T → List Note) → gone ≡ None → notes x ≡ Went_down ∷ [] → (state : TargetStanding) → BeginsStep may_say set state slot old
       → StepsOn {R = R} {E = E} set e state gone notes old new (Ok x)
   down_steps E gone x notes none down state begins =
       let adds = took_adds state begins in
@@ -98,7 +98,7 @@ module _ {S R : Type 0} (may_say : R → LoadHeader → List KeptLoad → Bool �
       })
 
   -- or has no memory
-  pub unmade_steps : {T E : Type 0} (after : Option (machine.TargetState R)) (notes : T → List Note) (fault : E) (state : TargetState) → BeginsStep may_say set state slot old → StepsOn {T = T} set e state after notes old new (Err fault)
+  pub unmade_steps : {T E : Type 0} (after : Option (machine.TargetState R)) (notes : T → List Note) (fault : E) (state : TargetStanding) → BeginsStep may_say set state slot old → StepsOn {T = T} set e state after notes old new (Err fault)
   unmade_steps after notes fault state begins = record { adds = took_adds state begins; holds = tt; boots = tt }
 
 pub next_of : {R : Type 0} (set : Setting) (e : Option Event) (before after : machine.TargetState R) (posts : List DatagramView) → TargetTakes set.accepts e before after posts → Some after.view ≡ target_next set.accepts (Some before.view) e
@@ -106,7 +106,7 @@ next_of set None before after posts takes = ap (λ t. Some t.view) takes.0
 next_of set (Some e) before after posts takes = ap (λ v. Some v) takes.keeps
 
 -- nothing reaches a target that is down
-pub nothing_steps : {T R : Type 0} (E : Type 0) (may_say : R → LoadHeader → List KeptLoad → Bool → Type 0) (set : Setting) (e : Option Event) (state : TargetState) (disk : DiskState) (x : T) (notes : T → List Note) → notes x ≡ []
+pub nothing_steps : {T R : Type 0} (E : Type 0) (may_say : R → LoadHeader → List KeptLoad → Bool → Type 0) (set : Setting) (e : Option Event) (state : TargetStanding) (disk : DiskState) (x : T) (notes : T → List Note) → notes x ≡ []
     → BeginsStep may_say set state None disk → StepsOn {R = R} {E = E} set e state None notes disk disk (Ok x)
 nothing_steps E may_say set e (Is_up r) disk x notes none begins = absurd (let wrong : None ≡ Some (target_view r) = begins.holds.kept in cc)
 nothing_steps {T} {R} E may_say set e (Is_down active interrupted) disk x notes none begins = by e
@@ -127,7 +127,7 @@ nothing_steps {T} {R} E may_say set e (Is_down active interrupted) disk x notes 
 
 -- ---- the same as another answer
 
-pub steps_as : {R T S E F : Type 0} (set : Setting) (e : Option Event) (state : TargetState) (target : Option (machine.TargetState R)) (old new : DiskState) (notes : T → List Note) (more : S → List Note) (x : T) (y : S) → more y ≡ notes x
+pub steps_as : {R T S E F : Type 0} (set : Setting) (e : Option Event) (state : TargetStanding) (target : Option (machine.TargetState R)) (old new : DiskState) (notes : T → List Note) (more : S → List Note) (x : T) (y : S) → more y ≡ notes x
     → StepsOn {E = E} set e state target notes old new (Ok x) → StepsOn {E = F} set e state target more old new (Ok y)
 steps_as set e state target old new notes more x y same steps = record {
   adds = steps.adds;
@@ -137,7 +137,7 @@ steps_as set e state target old new notes more x y same steps = record {
 
 -- ---- a boot
 
-pub booted_turns : {R : Type 0} (set : Setting) (state : TargetState) (before : Option (machine.TargetState R)) (after : Option (machine.TargetState R)) (note : PowerNote) (disk : DiskState) (port : ℕ) → IsBooted port (notes_of (Some note))
+pub booted_turns : {R : Type 0} (set : Setting) (state : TargetStanding) (before : Option (machine.TargetState R)) (after : Option (machine.TargetState R)) (note : PowerNote) (disk : DiskState) (port : ℕ) → IsBooted port (notes_of (Some note))
     → HoldsRun set (noted (notes_of (Some note)) state (reached set None state)) after disk → TargetTurns set None state (target_kept before) (target_kept after) [] (notes_of (Some note))
 booted_turns set state before after power.Down disk port booted holds = absurd booted
 booted_turns set state before after (power.Up first_port sequence) disk port booted holds = (holds.kept, refl, refl)
@@ -146,7 +146,7 @@ booted_turns set state before after (power.Refused fault) disk port booted holds
 -- ---- an arming
 
 -- a target that is up goes on working
-armed_works : {R : Type 0} (set : Setting) (state : TargetState) (slot : Option (machine.TargetState R)) (old new : DiskState) (calls pick : ℕ) → Arms calls pick old new
+armed_works : {R : Type 0} (set : Setting) (state : TargetStanding) (slot : Option (machine.TargetState R)) (old new : DiskState) (calls pick : ℕ) → Arms calls pick old new
     → ((t : machine.TargetState R) → slot ≡ Some t → (store : Store) → Works store old → Works store new) → WorksOn set state slot old → WorksOn set state slot new
 armed_works set (Is_up r) None old new calls pick arms works holds = tt
 armed_works set (Is_up r) (Some t) old new calls pick arms works holds = record {
@@ -155,7 +155,7 @@ armed_works set (Is_up r) (Some t) old new calls pick arms works holds = record 
 }
 armed_works set (Is_down active interrupted) slot old new calls pick arms works holds = tt
 
-pub armed_steps : {R : Type 0} (E : Type 0) (may_say : R → LoadHeader → List KeptLoad → Bool → Type 0) (set : Setting) (state : TargetState) (slot : Option (machine.TargetState R)) (old new : DiskState) (calls pick : ℕ) → Arms calls pick old new
+pub armed_steps : {R : Type 0} (E : Type 0) (may_say : R → LoadHeader → List KeptLoad → Bool → Type 0) (set : Setting) (state : TargetStanding) (slot : Option (machine.TargetState R)) (old new : DiskState) (calls pick : ℕ) → Arms calls pick old new
     → ((t : machine.TargetState R) → slot ≡ Some t → (store : Store) → Works store old → Works store new) → BeginsStep may_say set state slot old → StepsOn {E = E} set None state slot notes_of old new (Ok None)
 armed_steps E may_say set state slot old new calls pick arms works begins = record {
   adds = adds_no_image set state slot old new begins.holds (arms_no_more old new calls pick arms);
@@ -164,7 +164,7 @@ armed_steps E may_say set state slot old new calls pick arms works begins = reco
 }
 
 -- power is lost at once
-pub cut_steps : {R : Type 0} (E : Type 0) (may_say : R → LoadHeader → List KeptLoad → Bool → Type 0) (set : Setting) (state : TargetState) (slot gone : Option (machine.TargetState R)) (old new : DiskState) (calls pick : ℕ) → gone ≡ None → Arms calls pick old new
+pub cut_steps : {R : Type 0} (E : Type 0) (may_say : R → LoadHeader → List KeptLoad → Bool → Type 0) (set : Setting) (state : TargetStanding) (slot gone : Option (machine.TargetState R)) (old new : DiskState) (calls pick : ℕ) → gone ≡ None → Arms calls pick old new
     → BeginsStep may_say set state slot old → StepsOn {R = R} {E = E} set None state gone notes_of old new (Ok (Some power.Down))
 cut_steps {R} E may_say set state slot gone old new calls pick none arms begins =
     let adds = adds_no_image set state slot old new begins.holds (arms_no_more old new calls pick arms) in
@@ -177,7 +177,7 @@ cut_steps {R} E may_say set state slot gone old new calls pick none arms begins 
 -- ---- a target that is switched off and on
 
 -- the disk failed as it was restarted
-pub unrestarted_steps : {R T : Type 0} (E : Type 0) (may_say : R → LoadHeader → List KeptLoad → Bool → Type 0) (set : Setting) (state : TargetState) (slot gone : Option (machine.TargetState R)) (old new : DiskState) (result : Result T DiskFault)
+pub unrestarted_steps : {R T : Type 0} (E : Type 0) (may_say : R → LoadHeader → List KeptLoad → Bool → Type 0) (set : Setting) (state : TargetStanding) (slot gone : Option (machine.TargetState R)) (old new : DiskState) (result : Result T DiskFault)
     → gone ≡ None → Elapses old new old.now result → BeginsStep may_say set state slot old → StepsOn {R = R} {E = E} set None state gone (λ note. notes_of (Some note)) old new (Ok (power.Refused DiskFailed))
 unrestarted_steps {R} E may_say set state slot gone old new result none elapses begins =
     subst (λ (o : Option (machine.TargetState R)). StepsOn {R = R} {E = E} set None state o (λ note. notes_of (Some note)) old new (Ok (power.Refused DiskFailed))) (sym none) (record {
@@ -186,12 +186,12 @@ unrestarted_steps {R} E may_say set state slot gone old new result none elapses 
       boots = refl;
     })
 
-pub failed_steps : {R S E : Type 0} (may_say : R → LoadHeader → List KeptLoad → Bool → Type 0) (set : Setting) (state : TargetState) (slot after : Option (machine.TargetState R)) (old new : DiskState) (notes : S → List Note) (fault : E) → LeavesNoMore old new
+pub failed_steps : {R S E : Type 0} (may_say : R → LoadHeader → List KeptLoad → Bool → Type 0) (set : Setting) (state : TargetStanding) (slot after : Option (machine.TargetState R)) (old new : DiskState) (notes : S → List Note) (fault : E) → LeavesNoMore old new
     → BeginsStep may_say set state slot old → StepsOn {T = S} set None state after notes old new (Err fault)
 failed_steps may_say set state slot after old new notes fault no_more begins = record { adds = adds_no_image set state slot old new begins.holds no_more; holds = tt; boots = tt }
 
 -- it was restarted, and the target comes up or stays down
-pub restarted_steps : {R T : Type 0} (E : Type 0) (may_say : R → LoadHeader → List KeptLoad → Bool → Type 0) (set : Setting) (state : TargetState) (slot after : Option (machine.TargetState R)) (old there new : DiskState) (restarted : Result T DiskFault) (note : PowerNote)
+pub restarted_steps : {R T : Type 0} (E : Type 0) (may_say : R → LoadHeader → List KeptLoad → Bool → Type 0) (set : Setting) (state : TargetStanding) (slot after : Option (machine.TargetState R)) (old there new : DiskState) (restarted : Result T DiskFault) (note : PowerNote)
     → Elapses old there old.now restarted → OnlyReads there new
     → ((active : StandingView) (interrupted : Option StandingView) → HoldsRun {R = R} set (Is_down active interrupted) None there
     → HasBooted set (noted (notes_of (Some note)) (Is_down active interrupted) (Is_down active interrupted)) (notes_of (Some note)) after new)
@@ -199,14 +199,14 @@ pub restarted_steps : {R T : Type 0} (E : Type 0) (may_say : R → LoadHeader �
 restarted_steps {R} E may_say set state slot after old there new restarted note elapses reads comes begins =
     let down = down_as set state in
     let off : HoldsRun {R = R} set (Is_down down.active down.interrupted) None there =
-    subst (λ (s : TargetState). HoldsRun {R = R} set s None there) down.is (down_holds {R = R} set state slot old there restarted begins.follow begins.holds elapses) in
+    subst (λ (s : TargetStanding). HoldsRun {R = R} set s None there) down.is (down_holds {R = R} set state slot old there restarted begins.follow begins.holds elapses) in
     record {
       adds = adds_no_image set state slot old new begins.holds (both_no_more old there new (restart_no_more old there restarted elapses) (reads_no_more there new reads));
-      holds = subst (λ (s : TargetState). HoldsRun set s after new) (noted_down set state note down) (comes down.active down.interrupted off).holds;
-      boots = subst (λ (s : TargetState). BootIsTold s (notes_of (Some note))) (noted_down set state note down) (comes down.active down.interrupted off).boots;
+      holds = subst (λ (s : TargetStanding). HoldsRun set s after new) (noted_down set state note down) (comes down.active down.interrupted off).holds;
+      boots = subst (λ (s : TargetStanding). BootIsTold s (notes_of (Some note))) (noted_down set state note down) (comes down.active down.interrupted off).boots;
     }
 
-pub boots_steps : {R T E : Type 0} (may_say : R → LoadHeader → List KeptLoad → Bool → Type 0) (set : Setting) (state : TargetState) (slot after : Option (machine.TargetState R)) (old there new : DiskState) (restarted : Result T DiskFault) (result : Result PowerNote E)
+pub boots_steps : {R T E : Type 0} (may_say : R → LoadHeader → List KeptLoad → Bool → Type 0) (set : Setting) (state : TargetStanding) (slot after : Option (machine.TargetState R)) (old there new : DiskState) (restarted : Result T DiskFault) (result : Result PowerNote E)
     → Elapses old there old.now restarted → OnlyReads there new
     → ((active : StandingView) (interrupted : Option StandingView) → HoldsRun {R = R} set (Is_down active interrupted) None there
     → IfOk result (λ note. HasBooted set (noted (notes_of (Some note)) (Is_down active interrupted) (Is_down active interrupted)) (notes_of (Some note)) after new))
@@ -215,6 +215,6 @@ boots_steps {R} {T} {E} may_say set state slot after old there new restarted (Ok
 boots_steps may_say set state slot after old there new restarted (Err fault) elapses reads comes begins =
     failed_steps may_say set state slot after old new (λ n. notes_of (Some n)) fault (both_no_more old there new (restart_no_more old there restarted elapses) (reads_no_more there new reads)) begins
 
-pub errs_as : {R T S E F : Type 0} (set : Setting) (e : Option Event) (state : TargetState) (target : Option (machine.TargetState R)) (old new : DiskState) (notes : T → List Note) (more : S → List Note) (one : Result T E) (fault : F)
+pub errs_as : {R T S E F : Type 0} (set : Setting) (e : Option Event) (state : TargetStanding) (target : Option (machine.TargetState R)) (old new : DiskState) (notes : T → List Note) (more : S → List Note) (one : Result T E) (fault : F)
     → StepsOn set e state target notes old new one → StepsOn set e state target more old new (Err fault)
 errs_as set e state target old new notes more one fault steps = record { adds = steps.adds; holds = tt; boots = tt }

@@ -10,7 +10,7 @@ use Rattle.exchange_trace.specs.Steps.{Note, Step}
 use Rattle.load_header.specs.declared.header.LoadHeader.{LoadHeader}
 use Rattle.accept_rules.specs.declared.kept.KeptLoad.{KeptLoad}
 use Rattle.loader_machine.specs.Machine.{LoaderState}
-use Rattle.replay_rules.specs.BothEnds.{Setting, TargetState, noted, reached}
+use Rattle.replay_rules.specs.BothEnds.{Setting, TargetStanding, noted, reached}
 use Rattle.replay_rules.specs.Changes.{CarriesBytes, InjectsBytes}
 use Rattle.replay_rules.specs.Due.{MayBeNoted}
 use Rattle.target_machine.specs.Decisions as machine
@@ -36,7 +36,7 @@ pub record HasStepped {R : Type 0} (h : HappeningView) (posts : List DatagramVie
 
 -- And what the target did, whatever is known of its disk; by what its log says, where that is known; with what its disk holds
 -- then, where the disk held it before.
-pub record StepsAsSaid {R : Type 0} (may_say : R → LoadHeader → List KeptLoad → Bool → Type 0) (set : Setting) (state : TargetState) (h : HappeningView) (posts : List DatagramView) (steps steps_then : List Step) (loader loader_then : LoaderState) (target target_then : Option (machine.TargetState R)) (old new : DiskState) : Type 0 where
+pub record StepsAsSaid {R : Type 0} (may_say : R → LoadHeader → List KeptLoad → Bool → Type 0) (set : Setting) (state : TargetStanding) (h : HappeningView) (posts : List DatagramView) (steps steps_then : List Step) (loader loader_then : LoaderState) (target target_then : Option (machine.TargetState R)) (old new : DiskState) : Type 0 where
   pub stepped : HasStepped h posts steps steps_then loader loader_then target target_then old new
   pub lives : TargetLives set.accepts (event_for sides.Target (posted_in steps) h) (target_kept target) (target_kept target_then) stepped.target_posts stepped.notes
   pub turns : IsNoBoot h ⊎ BeginsStep may_say set state target old

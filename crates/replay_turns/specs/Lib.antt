@@ -1,10 +1,7 @@
-pub mod BootLaws
 pub mod Ends
 pub mod Orders
-pub mod PowerLaws
 pub mod Powers
 pub mod Recordings
-pub mod StepLaws
 pub mod StepsOnDisks
 pub mod Targets
 pub mod Turns

@@ -23,14 +23,14 @@ pub record IsRecorded (trace : List TraceStep) (posts : List ℕ) (first_port : 
   pub ordered : IsInOrder trace
 
 -- something has happened, and nothing was noted of it yet, so that what is posted or noted next belongs to its step
-abbrev pub HasBegun : List Step → Type 0
-HasBegun [] = ⊥
-HasBegun (s ∷ earlier) = s.notes ≡ []
+abbrev pub StepHasBegun : List Step → Type 0
+StepHasBegun [] = ⊥
+StepHasBegun (s ∷ earlier) = s.notes ≡ []
 
 -- the line may come after these steps: it begins a step, or belongs to the newest
 abbrev pub HasPlace : List Step → TraceStep → Type 0
 HasPlace steps (lines.Given h) = ⊤
-HasPlace steps line = HasBegun steps
+HasPlace steps line = StepHasBegun steps
 
 -- the steps, with these posts more
 abbrev pub with_posts : List Step → List DatagramView → List Step

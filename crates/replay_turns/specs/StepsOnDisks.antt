@@ -12,7 +12,7 @@ use Rattle.accept_rules.specs.Permissions.{Accepts}
 use Rattle.session_rules.specs.Contents.{AreKept, TargetContents, contents_after, contents_of}
 use Rattle.session_rules.specs.Target.{TargetView}
 use Rattle.load_intake.specs.Contents.{AddsAtFirst}
-use Rattle.replay_rules.specs.BothEnds.{Is_down, Is_up, Setting, TargetState, noted, reached}
+use Rattle.replay_rules.specs.BothEnds.{Is_down, Is_up, Setting, TargetStanding, noted, reached}
 use Rattle.replay_rules.specs.ContentTraces.{ContentsFollowAt}
 use Rattle.replay_rules.specs.Histories.{active_in, may_be_active}
 use Rattle.replay_rules.specs.Promises.{HoldsOneOf}
@@ -24,18 +24,18 @@ use Rattle.replay_turns.specs.Turns.{RuleFollows, target_kept}
 -- ---- what the disk holds between two steps
 
 -- what an installation that was interrupted would make active has another sequence number
-abbrev pub AreApart : TargetState → Type 0
+abbrev pub AreApart : TargetStanding → Type 0
 AreApart (Is_down active (Some new)) = (active.sequence == new.sequence) ≡ false
 AreApart state = ⊤
 
 -- a target that is up works on a disk that holds what its log says
-abbrev pub WorksOn : {R : Type 0} → Setting → TargetState → Option (machine.TargetState R) → DiskState → Type 0
+abbrev pub WorksOn : {R : Type 0} → Setting → TargetStanding → Option (machine.TargetState R) → DiskState → Type 0
 WorksOn set (Is_up r) (Some t) disk = HoldsContents t.store disk (contents_of r)
 WorksOn set state target disk = ⊤
 
 -- The target keeps what its log says, and its disk tells its content: a power loss leaves a configuration that may be active,
 -- and a target that is up works on it.
-pub record HoldsRun {R : Type 0} (set : Setting) (state : TargetState) (target : Option (machine.TargetState R)) (disk : DiskState) : Type 0 where
+pub record HoldsRun {R : Type 0} (set : Setting) (state : TargetStanding) (target : Option (machine.TargetState R)) (disk : DiskState) : Type 0 where
   pub kept : target_kept target ≡ kept_by state
   pub tells : is_some disk.reads ≡ true
   pub leaves : (image : Image) → disk.now image → HoldsOneOf (may_be_active state) image
@@ -51,13 +51,13 @@ pub record HasContents {R : Type 0} (target : machine.TargetState R) (disk : Dis
 -- ---- what is noted of a boot
 
 -- A target that comes up tells the sequence number of what is active then, and a boot is refused only where the disk failed.
-abbrev pub BootIsTold : TargetState → List Note → Type 0
+abbrev pub BootIsTold : TargetStanding → List Note → Type 0
 BootIsTold state (Came_up first_port sequence ∷ []) = sequence ≡ (active_in state).sequence
 BootIsTold state (Boot_refused fault ∷ []) = fault ≡ DiskFailed
 BootIsTold state notes = ⊤
 
 -- the disk holds the run after a boot, of which this is noted
-pub record HasBooted {R : Type 0} (set : Setting) (state : TargetState) (notes : List Note) (target : Option (machine.TargetState R)) (disk : DiskState) : Type 0 where
+pub record HasBooted {R : Type 0} (set : Setting) (state : TargetStanding) (notes : List Note) (target : Option (machine.TargetState R)) (disk : DiskState) : Type 0 where
   pub holds : HoldsRun set state target disk
   pub boots : BootIsTold state notes
 
@@ -78,7 +78,7 @@ pub record HoldsAsBefore (disk : DiskState) (image : Image) : Type 0 where
 
 -- Time goes on over a step. It adds only images that hold what may be active before it, or once this reached the target; and
 -- at the clock at which it began only such as hold what a power loss might leave before.
-pub record AddsInStep (set : Setting) (e : Option Event) (state : TargetState) (old new : DiskState) : Type 0 where
+pub record AddsInStep (set : Setting) (e : Option Event) (state : TargetStanding) (old new : DiskState) : Type 0 where
   pub tells : is_some new.reads ≡ is_some old.reads
   pub later : old.clock ≤ new.clock
   pub each : (t u : ℕ) (image : Image) → new.between t u image → old.between t u image ⊎ HoldsOneOf (may_be_active state ++ may_be_active (reached set e state)) image
@@ -87,14 +87,14 @@ pub record AddsInStep (set : Setting) (e : Option Event) (state : TargetState) (
   pub earlier : (t u : ℕ) (image : Image) → u < old.clock → new.between t u image → old.between t u image
 
 -- a step begins, in which the interlock accepts the loads of the setting
-pub record BeginsStep {R : Type 0} (may_say : R → LoadHeader → List KeptLoad → Bool → Type 0) (set : Setting) (state : TargetState) (target : Option (machine.TargetState R)) (disk : DiskState) : Type 0 where
+pub record BeginsStep {R : Type 0} (may_say : R → LoadHeader → List KeptLoad → Bool → Type 0) (set : Setting) (state : TargetStanding) (target : Option (machine.TargetState R)) (disk : DiskState) : Type 0 where
   pub rule : RuleFollows may_say set.accepts target
   pub follow : ContentsFollowAt set state
   pub holds : HoldsRun set state target disk
 
 -- What a step in which this reaches the target adds, whatever is answered; and with Ok, where this was noted of it, the disk
 -- holds the run as it is then.
-pub record StepsOn {R T E : Type 0} (set : Setting) (e : Option Event) (state : TargetState) (target : Option (machine.TargetState R)) (notes : T → List Note) (old new : DiskState) (result : Result T E) : Type 0 where
+pub record StepsOn {R T E : Type 0} (set : Setting) (e : Option Event) (state : TargetStanding) (target : Option (machine.TargetState R)) (notes : T → List Note) (old new : DiskState) (result : Result T E) : Type 0 where
   pub adds : AddsInStep set e state old new
   pub holds : IfOk result (λ x. HoldsRun set (noted (notes x) state (reached set e state)) target new)
   pub boots : IfOk result (λ x. BootIsTold (noted (notes x) state (reached set e state)) (notes x))

@@ -7,12 +7,12 @@ use Rattle.exchange_trace.specs.Happenings.{DatagramView, HappeningView, Booted,
 use Rattle.exchange_trace.specs.Logs.{Event}
 use Rattle.exchange_trace.specs.Steps.{Note, Boot_refused, Came_up, Went_down}
 use Rattle.session_rules.specs.Target.{TargetView, new_target}
-use Rattle.replay_rules.specs.BothEnds.{Setting, TargetState, come_up, gone_down, reached}
+use Rattle.replay_rules.specs.BothEnds.{Setting, TargetStanding, come_up, gone_down, reached}
 use Rattle.replay_rules.specs.Ties.{kept_by, target_next, target_says}
 
 -- What a turn does to the target, where this would reach it and its state was so before: it takes what reaches it; or it goes
 -- down, comes up or stays down, and posts nothing.
-abbrev pub TargetTurns : Setting → Option Event → TargetState → (before after : Option TargetView) → List DatagramView → List Note → Type 0
+abbrev pub TargetTurns : Setting → Option Event → TargetStanding → (before after : Option TargetView) → List DatagramView → List Note → Type 0
 TargetTurns set e state before after posts [] = (after ≡ target_next set.accepts before e) × (posts ≡ target_says set.accepts before e)
 TargetTurns set e state before after posts (Went_down ∷ []) = (after ≡ None) × (posts ≡ [])
 TargetTurns set e state before after posts (Boot_refused fault ∷ []) = (after ≡ None) × (posts ≡ []) × (e ≡ None)

@@ -1,6 +1,6 @@
 -- What a happening does to both ends (docs/EXCHANGE.md, "Runs").
-use Rattle.std.specs.Prelude.{◌≡◌, ◌⊎◌, List, [], ◌∷◌, ◌++◌, Bool, false, option_map, Option, Some, None, ⊤}
-use Rattle.accept_rules.specs.Interlocks.{Follows}
+use Rattle.std.specs.Prelude.{◌≡◌, ◌⊎◌, List, [], ◌∷◌, Bool, false, option_map, Option, Some, None, ⊤}
+use Rattle.accept_rules.specs.Interlocks.{FollowsAccepts}
 use Rattle.accept_rules.specs.Permissions.{Accepts}
 use Rattle.bank_store.specs.DiskWrites.{IsRunning}
 use Rattle.disk_layout.specs.DiskReads.{IsOutOfMemory}
@@ -11,17 +11,16 @@ use Rattle.exchange_trace.specs.Steps.{Note, Boot_refused, Came_up, Went_down, w
 use Rattle.exchange_trace.specs.Steps.{Step}
 use Rattle.load_header.specs.declared.header.LoadHeader.{LoadHeader}
 use Rattle.accept_rules.specs.declared.kept.KeptLoad.{KeptLoad}
-use Rattle.loader_machine.specs.Machine.{LoaderState, Takes}
+use Rattle.loader_machine.specs.Machine.{LoaderState, LoaderTakesEvent}
 use Rattle.session_rules.specs.Target.{TargetView}
-use Rattle.target_machine.specs.Decisions as takes
-use Rattle.target_machine.specs.Decisions.{TargetState}
+use Rattle.target_machine.specs.Decisions.{TargetState, TargetTakesEvent}
 use Rattle.replay_turns.specs.declared.powering.PowerNote.{PowerNote}
 use Rattle.replay_turns.specs.declared.powering.PowerNote.TheVariants as power
 
 -- the loader takes what reaches it, if anything does
 abbrev pub LoaderTakes : Option Event → (before after : LoaderState) → List DatagramView → Type 0
 LoaderTakes None before after sent = (after ≡ before) × (sent ≡ [])
-LoaderTakes (Some e) before after sent = Takes e before after sent
+LoaderTakes (Some e) before after sent = LoaderTakesEvent e before after sent
 
 -- ---- the target
 
@@ -32,12 +31,12 @@ target_kept target = option_map (λ t. t.view) target
 -- it takes what reaches it, if anything does, where the interlock accepts these loads
 abbrev pub TargetTakes : {R : Type 0} → Accepts → Option Event → (before after : TargetState R) → List DatagramView → Type 0
 TargetTakes accepts None before after sent = (after ≡ before) × (sent ≡ [])
-TargetTakes accepts (Some e) before after sent = takes.Takes accepts e before after sent
+TargetTakes accepts (Some e) before after sent = TargetTakesEvent accepts e before after sent
 
 -- the rule of a target that is up answers as this function does
 abbrev pub RuleFollows : {R : Type 0} → (may_say : R → LoadHeader → List KeptLoad → Bool → Type 0) → (accepts : Accepts) → Option (TargetState R) → Type 0
 RuleFollows may_say accepts None = ⊤
-RuleFollows may_say accepts (Some t) = Follows may_say t.rule accepts
+RuleFollows may_say accepts (Some t) = FollowsAccepts may_say t.rule accepts
 
 -- the disk of a target that is up runs
 abbrev pub RunsWhileUp : {R : Type 0} → Option (TargetState R) → DiskState → Type 0

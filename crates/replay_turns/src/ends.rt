@@ -1,18 +1,18 @@
 //! Both ends, and what has happened between them.
 ghost use Rattle.std.specs.Prelude.{◌≡◌, ◌⊎◌, ◌++◌, ◌∷◌, [], IfOk, OnOk};
 ghost use Rattle.std.specs.List.{AllByRecursion};
-ghost use Rattle.accept_rules.specs.Interlocks.{Follows};
+ghost use Rattle.accept_rules.specs.Interlocks.{FollowsAccepts};
 ghost use Rattle.exchange_trace.specs.declared.trace.Side.TheVariants as sides;
 ghost use Rattle.exchange_trace.specs.Happenings.{Booted, datagram_view, happening_view};
 ghost use Rattle.exchange_trace.specs.Logs.{event_for};
 ghost use Rattle.exchange_trace.specs.Posts.{posted_in};
 ghost use Rattle.field_grammar.specs.Grammar.{IsBytes};
 ghost use Rattle.accept_rules.specs.Permissions.{Accepts};
-ghost use Rattle.replay_rules.specs.BothEnds.{Setting, TargetState};
+ghost use Rattle.replay_rules.specs.BothEnds.{Setting, TargetStanding};
 ghost use Rattle.replay_rules.specs.Changes.{CarriesBytes, InjectsBytes};
 ghost use Rattle.replay_turns.specs.Ends.{HasStepped, StepsAsSaid};
 ghost use Rattle.replay_turns.specs.Powers.{ArmsBy};
-ghost use Rattle.replay_turns.specs.Recordings.{HasBegun, with_posts};
+ghost use Rattle.replay_turns.specs.Recordings.{StepHasBegun, with_posts};
 ghost use Rattle.replay_turns.specs.StepsOnDisks.{AddsInStep, BeginsStep, Reboots};
 ghost use Rattle.replay_turns.specs.Turns.{RuleFollows, RunsWhileUp, noted_with, notes_of};
 ghost use Rattle.transfer_end.specs.Calls.{posted, posts_view};
@@ -51,13 +51,13 @@ impl<'m, R: Rule> Ends<'m, R> {
             (posts_view posts) self.old.recording self.new.recording self.old.loader
             self.new.loader self.old.target self.new.target (K.state disk.old)
             (K.state disk.new)) }
-        ensures said { (set : Setting) (state : TargetState)
+        ensures said { (set : Setting) (state : TargetStanding)
             → RuleFollows R.may_say set.accepts self.old.target → IfOk result (λ posts.
             StepsAsSaid R.may_say set state (happening_view happening) (posts_view posts)
             self.old.recording self.new.recording self.old.loader self.new.loader
             self.old.target self.new.target (K.state disk.old) (K.state disk.new)) }
         ensures rule { (accepts : Accepts)
-            → Follows R.may_say self.old.interlock.now accepts
+            → FollowsAccepts R.may_say self.old.interlock.now accepts
             → RuleFollows R.may_say accepts self.old.target
             → OnOk result (RuleFollows R.may_say accepts self.new.target) }
         // Whatever it answers.
@@ -66,7 +66,7 @@ impl<'m, R: Rule> Ends<'m, R> {
         ensures reboots { happening_view happening ≡ Booted
             → Reboots (K.state disk.old) (K.state disk.new) }
         ensures injects { InjectsBytes (happening_view happening) }
-        ensures adds { (set : Setting) (state : TargetState)
+        ensures adds { (set : Setting) (state : TargetStanding)
             → BeginsStep R.may_say set state self.old.target (K.state disk.old)
             → AddsInStep set (event_for sides.Target (posted_in self.old.recording)
             (happening_view happening)) state (K.state disk.old) (K.state disk.new) }
@@ -130,7 +130,12 @@ fn record(
     note: Option<PowerNote>,
 ) -> Result<(), NoMemory>
     ensures step { OnOk result (recording.new
-        ≡ record { given = happening_view happening; posts = posts_view posts.now; notes = notes_of note }
+        ≡ record {
+          given = happening_view happening;
+          posts = posts_view posts.now;
+          notes = notes_of
+              note;
+        }
         ∷ recording.old) }
     ensures carries { OnOk result (AllByRecursion CarriesBytes (posts_view posts.now)) }
 {
@@ -148,10 +153,10 @@ fn record_post(
     recording: &mut Recording,
     datagram: &Option<Datagram>,
 ) -> Result<(), NoMemory>
-    requires { HasBegun recording.old }
+    requires { StepHasBegun recording.old }
     ensures posts { OnOk result (recording.new
         ≡ with_posts recording.old (posted datagram.now)) }
-    ensures begun { OnOk result (HasBegun recording.new) }
+    ensures begun { OnOk result (StepHasBegun recording.new) }
     ensures carries { OnOk result (AllByRecursion CarriesBytes (posted datagram.now)) }
 {
     match datagram {
@@ -161,7 +166,7 @@ fn record_post(
 }
 
 fn record_note(recording: &mut Recording, note: PowerNote) -> Result<(), NoMemory>
-    requires { HasBegun recording.old }
+    requires { StepHasBegun recording.old }
     ensures { OnOk result (recording.new ≡ noted_with recording.old note) }
 {
     match note {

@@ -1,5 +1,5 @@
-//! A step of an exchange: a loader and a target take what happens, and it is recorded with what they
-//! post and what becomes of the target's power.
+//! A step of an exchange: a loader and a target take what happens, and it is recorded with what
+//! they post and what becomes of the target's power.
 #![tactic(auto)]
 
 mod ends;

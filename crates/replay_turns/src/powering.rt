@@ -1,16 +1,17 @@
 //! What becomes of the target's power.
 ghost use Rattle.std.specs.Prelude.{◌≡◌, ℕ, [], None, Option, Some, is_some};
 ghost use Rattle.std.specs.Prelude.{IfOk, Ok, OnErr, OnOk};
-ghost use Rattle.accept_rules.specs.Interlocks.{Follows};
+ghost use Rattle.accept_rules.specs.Interlocks.{FollowsAccepts};
 ghost use Rattle.accept_rules.specs.Permissions.{Accepts};
 ghost use Rattle.bank_store.specs.DiskWrites.{IsRunning};
 ghost use Rattle.disk_layout.specs.Holds.{StandingView};
 ghost use Rattle.disk_model.specs.State.{IsSettled, KeepsPower, OnlyReads};
 ghost use Rattle.exchange_trace.specs.Happenings.{Power_cut};
-ghost use Rattle.replay_rules.specs.BothEnds.{Is_down, Setting, TargetState, noted};
+ghost use Rattle.replay_rules.specs.BothEnds.{Is_down, Setting, TargetStanding, noted};
 ghost use Rattle.replay_rules.specs.Due.{IsBooted, MayBeNoted};
 ghost use Rattle.replay_turns.specs.Targets.{ComesOutOfBoot, TargetLives, TargetTurns};
-ghost use Rattle.replay_turns.specs.StepsOnDisks.{BeginsStep, HasBooted, HoldsRun, Reboots, StepsOn};
+ghost use Rattle.replay_turns.specs.StepsOnDisks.{BeginsStep, HasBooted, HoldsRun, Reboots};
+ghost use Rattle.replay_turns.specs.StepsOnDisks.{StepsOn};
 ghost use Rattle.replay_turns.specs.Powers.{ArmsBy, RoseBy, stops_in, stops_noted};
 ghost use Rattle.replay_turns.specs.Turns.{RuleFollows, RunsOut, RunsWhileUp, notes_of};
 ghost use Rattle.replay_turns.specs.Turns.{target_kept};
@@ -44,7 +45,7 @@ pub(crate) fn cut_power<K: Power, R: Rule>(
     pick: u32,
 ) -> Option<PowerNote>
     requires { RunsWhileUp slot.old (K.state disk.old) }
-    ensures turns { (set : Setting) (state : TargetState) → TargetTurns set None state
+    ensures turns { (set : Setting) (state : TargetStanding) → TargetTurns set None state
         (target_kept slot.old) (target_kept slot.new) [] (notes_of result) }
     ensures lives { (accepts : Accepts) → TargetLives accepts None
         (target_kept slot.old) (target_kept slot.new) [] (notes_of result) }
@@ -56,7 +57,7 @@ pub(crate) fn cut_power<K: Power, R: Rule>(
     ensures stops { RoseBy (stops_in (Power_cut calls pick) (notes_of result))
         (K.state disk.old).faults (K.state disk.new).faults }
     ensures arms { ArmsBy (Power_cut calls pick) (K.state disk.old) (K.state disk.new) }
-    ensures steps { (set : Setting) (state : TargetState)
+    ensures steps { (set : Setting) (state : TargetStanding)
         → BeginsStep R.may_say set state slot.old (K.state disk.old)
         → StepsOn {E = OutOfMemory} set None state slot.new notes_of (K.state disk.old)
         (K.state disk.new) (Ok result) }
@@ -83,7 +84,7 @@ pub(crate) fn boot_again<'i, K: Power, R: Rule>(
     ensures noted { IfOk result (λ note. IsBooted first_port (notes_of (Some note))) }
     ensures boots { IfOk result (λ note. ComesOutOfBoot (target_kept slot.new)
         (notes_of (Some note))) }
-    ensures rule { (accepts : Accepts) → Follows R.may_say interlock.now accepts
+    ensures rule { (accepts : Accepts) → FollowsAccepts R.may_say interlock.now accepts
         → OnOk result (RuleFollows R.may_say accepts slot.new) }
     ensures running { OnOk result (RunsWhileUp slot.new (K.state disk.new)) }
     ensures stops { IfOk result (λ note. RoseBy (stops_noted (notes_of (Some note)))
@@ -91,7 +92,7 @@ pub(crate) fn boot_again<'i, K: Power, R: Rule>(
     ensures power { KeepsPower (K.state disk.old) (K.state disk.new) }
     ensures memory { OnErr result (RunsOut (K.state disk.old) (K.state disk.new)) }
     ensures reboots { Reboots (K.state disk.old) (K.state disk.new) }
-    ensures steps { (set : Setting) (state : TargetState)
+    ensures steps { (set : Setting) (state : TargetStanding)
         → BeginsStep R.may_say set state slot.old (K.state disk.old)
         → StepsOn set None state slot.new (λ note. notes_of (Some note)) (K.state disk.old)
         (K.state disk.new) result }
@@ -117,7 +118,7 @@ fn come_up<'i, K: Power, R: Rule>(
     ensures noted { IfOk result (λ note. IsBooted first_port (notes_of (Some note))) }
     ensures boots { IfOk result (λ note. ComesOutOfBoot (target_kept slot.new)
         (notes_of (Some note))) }
-    ensures rule { (accepts : Accepts) → Follows R.may_say interlock.now accepts
+    ensures rule { (accepts : Accepts) → FollowsAccepts R.may_say interlock.now accepts
         → OnOk result (RuleFollows R.may_say accepts slot.new) }
     ensures running { OnOk result (RunsWhileUp slot.new (K.state disk.new)) }
     ensures stops { IfOk result (λ note. RoseBy (stops_noted (notes_of (Some note)))

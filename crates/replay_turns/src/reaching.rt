@@ -3,7 +3,7 @@ ghost use Rattle.std.specs.Prelude.{IfOk};
 ghost use Rattle.exchange_trace.specs.declared.trace.Side.TheVariants as sides;
 ghost use Rattle.exchange_trace.specs.Happenings.{happening_view};
 ghost use Rattle.exchange_trace.specs.Logs.{Gets, event_for};
-ghost use Rattle.loader_machine.specs.Machine.{Takes};
+ghost use Rattle.loader_machine.specs.Machine.{LoaderTakesEvent};
 ghost use Rattle.exchange_trace.specs.Posts.{posted_in};
 ghost use Rattle.transfer_end.specs.Calls.{posts_view};
 ghost use Rattle.replay_turns.specs.Turns.{LoaderTakes};
@@ -49,7 +49,7 @@ pub(crate) fn loader_takes(
 }
 
 fn loader_gets(loader: &mut Loader<'_>, datagram: &Datagram) -> Result<Posts, NoMemory>
-    ensures { IfOk result (λ posts. Takes
+    ensures { IfOk result (λ posts. LoaderTakesEvent
         (Gets datagram.now.from datagram.now.to datagram.now.bytes.items)
         loader.old loader.new (posts_view posts)) }
 {

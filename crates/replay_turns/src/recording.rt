@@ -1,17 +1,19 @@
 //! The trace of a run while it goes on.
-ghost use Rattle.std.specs.Prelude.{◌≡◌, ◌-◌, ◌≤◌, ◌∷◌, [], None, Some, option_map, slice_get, OnOk};
+ghost use Rattle.std.specs.Prelude.{◌≡◌, ◌-◌, ◌≤◌, ◌∷◌, [], None, Some, option_map, slice_get};
+ghost use Rattle.std.specs.Prelude.{OnOk};
 ghost use Rattle.exchange_trace.specs.Happenings.{datagram_view, happening_view};
 ghost use Rattle.exchange_trace.specs.Posts.{first_port_after, numbered, port_above, posted_in};
 ghost use Rattle.exchange_trace.specs.Steps.{Boot_refused, Came_up, Went_down, steps_of};
 ghost use Rattle.exchange_trace.specs.Steps.{with_given, with_line, with_note, with_post};
 ghost use Rattle.replay_turns.specs.Orders.{IsInOrder};
-ghost use Rattle.replay_turns.specs.Recordings.{HasBegun, HasPlace, post_of};
+ghost use Rattle.replay_turns.specs.Recordings.{StepHasBegun, HasPlace, post_of};
 
 use disk_layout::RecoverFault;
 use exchange_trace::{Datagram, Happening, Side, TraceStep};
 use load_base::{List, NoMemory};
 use std::alloc::Global;
 use std::marker::Model;
+use transfer_end::REQUEST_PORT;
 
 /// The trace so far, in which each datagram is found by its number.
 #[derive(Drop)]
@@ -61,16 +63,16 @@ impl Recording {
     /// Something happens.
     pub fn give(&mut self, happening: Happening) -> Result<(), NoMemory>
         ensures given { OnOk result (self.new ≡ with_given self.old (happening_view happening)) }
-        ensures begun { OnOk result (HasBegun self.new) }
+        ensures begun { OnOk result (StepHasBegun self.new) }
     {
         self.push(TraceStep::Given(happening))
     }
 
     /// A side posts a datagram in the step.
     pub fn post(&mut self, datagram: Datagram) -> Result<(), NoMemory>
-        requires { HasBegun self.old }
+        requires { StepHasBegun self.old }
         ensures post { OnOk result (self.new ≡ with_post self.old (datagram_view datagram)) }
-        ensures begun { OnOk result (HasBegun self.new) }
+        ensures begun { OnOk result (StepHasBegun self.new) }
     {
         let first_port = port_after(self.first_port, &datagram);
         self.posts.reserve(1)?;
@@ -83,7 +85,7 @@ impl Recording {
 
     /// The target goes down in the step.
     pub fn note_down(&mut self) -> Result<(), NoMemory>
-        requires { HasBegun self.old }
+        requires { StepHasBegun self.old }
         ensures { OnOk result (self.new ≡ with_note self.old Went_down) }
     {
         self.push(TraceStep::Down)
@@ -91,7 +93,7 @@ impl Recording {
 
     /// The target comes up in the step.
     pub fn note_up(&mut self, first_port: u32, sequence: u32) -> Result<(), NoMemory>
-        requires { HasBegun self.old }
+        requires { StepHasBegun self.old }
         ensures { OnOk result (self.new ≡ with_note self.old (Came_up first_port sequence)) }
     {
         self.push(TraceStep::Up {
@@ -102,7 +104,7 @@ impl Recording {
 
     /// The target stays down in the step.
     pub fn note_refused(&mut self, fault: RecoverFault) -> Result<(), NoMemory>
-        requires { HasBegun self.old }
+        requires { StepHasBegun self.old }
         ensures { OnOk result (self.new ≡ with_note self.old (Boot_refused fault)) }
     {
         self.push(TraceStep::BootRefused(fault))
@@ -173,7 +175,9 @@ fn port_after(first_port: u32, datagram: &Datagram) -> u32
     ensures small { result ≤ 65536 }
 {
     match datagram.from_side {
-        Side::Target if datagram.from != 59 => first_port.max(u32::from(datagram.from) + 1),
+        Side::Target if datagram.from != REQUEST_PORT => first_port.max(
+            u32::from(datagram.from) + 1,
+        ),
         _ => first_port,
     }
 }

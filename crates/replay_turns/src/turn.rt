@@ -1,6 +1,6 @@
 //! What a happening does to the target.
 ghost use Rattle.std.specs.Prelude.{◌≡◌, ◌⊎◌, [], ℕ, is_some, IfOk, None, OnErr, OnOk};
-ghost use Rattle.accept_rules.specs.Interlocks.{Follows};
+ghost use Rattle.accept_rules.specs.Interlocks.{FollowsAccepts};
 ghost use Rattle.accept_rules.specs.Permissions.{Accepts};
 ghost use Rattle.bank_store.specs.DiskWrites.{IsRunning};
 ghost use Rattle.exchange_trace.specs.declared.trace.Side.TheVariants as sides;
@@ -8,7 +8,7 @@ ghost use Rattle.exchange_trace.specs.Happenings.{Booted, happening_view};
 ghost use Rattle.exchange_trace.specs.Logs.{Gets, event_for};
 ghost use Rattle.exchange_trace.specs.Posts.{first_port_after, posted_in};
 ghost use Rattle.load_intake.specs.Stores.{Writes};
-ghost use Rattle.replay_rules.specs.BothEnds.{Setting, TargetState};
+ghost use Rattle.replay_rules.specs.BothEnds.{Setting, TargetStanding};
 ghost use Rattle.replay_rules.specs.Due.{LeavesPower, MayBeNoted};
 ghost use Rattle.replay_turns.specs.Powers.{ArmsBy, RoseBy, stops_in};
 ghost use Rattle.replay_turns.specs.StepsOnDisks.{BeginsStep, HasContents, Reboots, StepsOn};
@@ -17,7 +17,7 @@ ghost use Rattle.replay_turns.specs.Targets.{IsNoBoot, TargetLives, TargetSpeaks
 ghost use Rattle.replay_turns.specs.Turns.{RuleFollows, RunsOut, RunsWhileUp, TargetTakes};
 ghost use Rattle.replay_turns.specs.Turns.{notes_of, target_kept};
 ghost use Rattle.session_rules.specs.Contents.{TargetContents, contents_after};
-ghost use Rattle.target_machine.specs.Decisions.{Takes};
+ghost use Rattle.target_machine.specs.Decisions.{TargetTakesEvent};
 ghost use Rattle.target_machine.specs.Disks.{KeepsDisk};
 ghost use Rattle.transfer_end.specs.Calls.{posts_view};
 
@@ -50,7 +50,7 @@ pub(crate) fn target_turn<'i, K: Power, R: Rule>(
 ) -> Result<Reply, NoMemory>
     requires { RunsWhileUp slot.old (K.state disk.old) }
     // With Ok.
-    ensures turns { (set : Setting) (state : TargetState)
+    ensures turns { (set : Setting) (state : TargetStanding)
         → RuleFollows R.may_say set.accepts slot.old → IsNoBoot (happening_view happening.now)
         ⊎ BeginsStep R.may_say set state slot.old (K.state disk.old)
         → IfOk result (λ reply. TargetTurns set
@@ -66,7 +66,7 @@ pub(crate) fn target_turn<'i, K: Power, R: Rule>(
         → posts_view reply.posts ≡ []) }
     ensures noted { IfOk result (λ reply. MayBeNoted (is_some slot.old)
         (first_port_after recording.now) (happening_view happening.now) (notes_of reply.note)) }
-    ensures rule { (accepts : Accepts) → Follows R.may_say interlock.now accepts
+    ensures rule { (accepts : Accepts) → FollowsAccepts R.may_say interlock.now accepts
         → RuleFollows R.may_say accepts slot.old
         → OnOk result (RuleFollows R.may_say accepts slot.new) }
     ensures running { OnOk result (RunsWhileUp slot.new (K.state disk.new)) }
@@ -78,7 +78,7 @@ pub(crate) fn target_turn<'i, K: Power, R: Rule>(
     ensures reboots { happening_view happening.now ≡ Booted
         → Reboots (K.state disk.old) (K.state disk.new) }
     ensures arms { ArmsBy (happening_view happening.now) (K.state disk.old) (K.state disk.new) }
-    ensures steps { (set : Setting) (state : TargetState)
+    ensures steps { (set : Setting) (state : TargetStanding)
         → BeginsStep R.may_say set state slot.old (K.state disk.old)
         → StepsOn set (event_for sides.Target (posted_in recording.now)
         (happening_view happening.now)) state slot.new (λ reply. notes_of reply.note)
@@ -118,7 +118,7 @@ fn reach_target<K: Disk, R: Rule>(
 ) -> Result<Reply, NoMemory>
     requires running { RunsWhileUp slot.old (K.state disk.old) }
     requires power { LeavesPower (happening_view happening.now) }
-    ensures turns { (set : Setting) (state : TargetState)
+    ensures turns { (set : Setting) (state : TargetStanding)
         → RuleFollows R.may_say set.accepts slot.old → IfOk result (λ reply. TargetTurns set
         (event_for sides.Target (posted_in recording.now) (happening_view happening.now)) state
         (target_kept slot.old) (target_kept slot.new) (posts_view reply.posts)
@@ -140,7 +140,7 @@ fn reach_target<K: Disk, R: Rule>(
         (K.state disk.old).faults (K.state disk.new).faults) }
     ensures memory { OnErr result (RunsOut (K.state disk.old) (K.state disk.new)) }
     ensures arms { ArmsBy (happening_view happening.now) (K.state disk.old) (K.state disk.new) }
-    ensures steps { (set : Setting) (state : TargetState)
+    ensures steps { (set : Setting) (state : TargetStanding)
         → BeginsStep R.may_say set state slot.old (K.state disk.old)
         → StepsOn set (event_for sides.Target (posted_in recording.now)
         (happening_view happening.now)) state slot.new (λ reply. notes_of reply.note)
@@ -165,8 +165,8 @@ fn reach_target<K: Disk, R: Rule>(
     }
 }
 
-/// The target is let go. A function of its own has the target's place on the stack, which is cleared
-/// at each call.
+/// The target is let go. A function of its own has the target's place on the stack, which is
+/// cleared at each call.
 fn go_down<R: Rule>(slot: &mut Option<Target<'_, R>>)
     ensures { slot.new ≡ None }
 {
@@ -181,13 +181,13 @@ fn target_takes<K: Disk, R: Rule>(
     happening: &Happening,
 ) -> Result<Posts, Down>
     requires { IsRunning (K.state disk.old) }
-    ensures takes { (accepts : Accepts) → Follows R.may_say target.old.rule accepts
+    ensures takes { (accepts : Accepts) → FollowsAccepts R.may_say target.old.rule accepts
         → IfOk result (λ posts. TargetTakes accepts
         (event_for sides.Target (posted_in recording.now) (happening_view happening.now))
         target.old target.new (posts_view posts)) }
     ensures silent { IfOk result (λ posts. ¬ TargetSpeaks (happening_view happening.now)
         → posts_view posts ≡ []) }
-    ensures keeps { (accepts : Accepts) → Follows R.may_say target.old.rule accepts
+    ensures keeps { (accepts : Accepts) → FollowsAccepts R.may_say target.old.rule accepts
         → (c : TargetContents) → HasContents target.old (K.state disk.old) c
         → KeepsDisk (K.state disk.old) target.new.store (K.state disk.new) c
         (contents_then accepts target.old.view (event_for sides.Target (posted_in recording.now)
@@ -220,11 +220,11 @@ fn target_gets<K: Disk, R: Rule>(
     datagram: &Datagram,
 ) -> Result<Posts, Down>
     requires { IsRunning (K.state disk.old) }
-    ensures takes { (accepts : Accepts) → Follows R.may_say target.old.rule accepts
-        → IfOk result (λ posts. Takes accepts
+    ensures takes { (accepts : Accepts) → FollowsAccepts R.may_say target.old.rule accepts
+        → IfOk result (λ posts. TargetTakesEvent accepts
         (Gets datagram.now.from datagram.now.to datagram.now.bytes.items)
         target.old target.new (posts_view posts)) }
-    ensures keeps { (accepts : Accepts) → Follows R.may_say target.old.rule accepts
+    ensures keeps { (accepts : Accepts) → FollowsAccepts R.may_say target.old.rule accepts
         → (c : TargetContents) → HasContents target.old (K.state disk.old) c
         → KeepsDisk (K.state disk.old) target.new.store (K.state disk.new) c
         (contents_after accepts target.old.view

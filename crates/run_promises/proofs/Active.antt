@@ -6,8 +6,8 @@ use Rattle.std.proofs.lemmas.List.{length-map}
 use Rattle.std.proofs.lemmas.List.Elements.{All-from_recursion, All-map, recursion_from_All}
 use Rattle.load_base.specs.Config.{FileView, LoadView}
 use Rattle.load_base.specs.Text.{IsText}
-use Rattle.load_base.specs.TextLaws.{name_is_text, part_text_is_text}
-use Rattle.part_number.specs.Laws.Texts.{part_text_of_part}
+use Rattle.load_base.proofs.TextLemmas.{name_is_text, part_text_is_text}
+use Rattle.part_number.proofs.Texts.{part_text_of_part}
 use Rattle.part_number.specs.PartNumber.{maker_of, product_of}
 use Rattle.load_header.specs.Header.{HeaderView}
 use Rattle.load_protocol_files.specs.declared.lcl.Part.{Part}
@@ -24,26 +24,26 @@ use Rattle.exchange_trace.specs.Posts.{posted_in}
 use Rattle.exchange_trace.specs.Steps.{Boot_refused, Came_up, Note, Step, Went_down}
 use Rattle.accept_rules.specs.declared.kept.KeptLoad.{KeptLoad}
 use Rattle.accept_rules.specs.Permissions.{AcceptsPermitted}
-use Rattle.session_rules.specs.ArrivedRequestLaws.{target_step_requests}
-use Rattle.session_rules.specs.BufferLaws.{SumsJoin}
-use Rattle.session_rules.specs.InstallationLaws.{all_then, good_are_checked}
+use Rattle.session_rules.proofs.ArrivedRequestLemmas.{target_step_requests}
+use Rattle.session_rules.proofs.BufferLemmas.{SumsJoin}
+use Rattle.session_rules.proofs.InstallationLemmas.{all_then, good_are_checked}
 use Rattle.session_rules.specs.KeptLoads.{with_kept}
 use Rattle.session_rules.specs.NewConfigs.{IsChecked, IsWanted}
-use Rattle.session_rules.specs.ReadFileLaws.{RequestsAreSpelled}
+use Rattle.session_rules.proofs.ReadFileLemmas.{RequestsAreSpelled}
 use Rattle.session_rules.specs.Reports.{first_name, listed_part}
 use Rattle.session_rules.specs.Requests.{InstallsRequest, SessionHasRequest}
-use Rattle.session_rules.specs.SoundLogLaws.{PayloadsAreBytes}
+use Rattle.session_rules.proofs.SoundLogLemmas.{PayloadsAreBytes}
 use Rattle.session_rules.specs.SoundLogs.{StaysOrIsNew}
-use Rattle.session_rules.specs.SoundnessLaws.{HeadersAreSpelled}
+use Rattle.session_rules.proofs.SoundnessLemmas.{HeadersAreSpelled}
 use Rattle.session_rules.specs.TargetLog.{TargetReading, standing_after, target_extended}
-use Rattle.replay_rules.specs.BothEnds.{Is_down, Is_up, Setting, TargetState, changed, come_up, gone_down, noted, reached, settled, target_at}
-use Rattle.replay_rules.specs.CameTraceLaws.{target_takes}
-use Rattle.replay_rules.specs.CameTraces.{TargetTakes}
-use Rattle.replay_rules.specs.ChangeLaws.{BringsBytes, TargetIsSound, event_bytes, posted_bytes, step_sound, target_sound}
+use Rattle.replay_rules.specs.BothEnds.{Is_down, Is_up, Setting, TargetStanding, changed, come_up, gone_down, noted, reached, settled, target_at}
+use Rattle.replay_rules.proofs.CameTraceLemmas.{target_takes}
+use Rattle.replay_rules.specs.CameTraces.{LifeTakesWhatCame}
+use Rattle.replay_rules.proofs.ChangeLemmas.{BringsBytes, TargetIsSound, event_bytes, posted_bytes, step_sound, target_sound}
 use Rattle.replay_rules.specs.Changes.{AllCarryBytes, TargetStaysOrIsNew}
 use Rattle.replay_rules.specs.Histories.{active_in}
 use Rattle.replay_rules.specs.ListTraces.{AllCanBeListed}
-use Rattle.replay_rules.specs.TieLaws.{HasLive, target_is_live}
+use Rattle.replay_rules.proofs.TieLemmas.{HasLive, target_is_live}
 use Rattle.run_promises.specs.Listing.{WhatIsActiveCanBeListed}
 use Rattle.run_promises.proofs.Listed.{listed, lists, no_text, standing_fits}
 
@@ -96,11 +96,11 @@ ListsIf None = Unit {0}
 ListsIf (Some s) = Lists s
 
 -- What may be active can be listed, and what a live session was asked for arrived as a request.
-abbrev StateLists : TargetState → Type 0
+abbrev StateLists : TargetStanding → Type 0
 StateLists (Is_up r) = Lists r.active × SessionHasRequest r
 StateLists (Is_down active interrupted) = Lists active × ListsIf interrupted
 
-active_lists : (set : Setting) (state : TargetState) → StateLists state → Lists (active_in state)
+active_lists : (set : Setting) (state : TargetStanding) → StateLists state → Lists (active_in state)
 active_lists set (Is_up r) h = h.0
 active_lists set (Is_down active interrupted) h = h.0
 
@@ -122,16 +122,16 @@ settled_lists sequence active (Some new) h then = by (sequence == new.sequence)
     by false = h
 
 module _ (set : Setting) where
-  gone_lists : (before after : TargetState) → StateLists before → StateLists after → StateLists (gone_down before after)
+  gone_lists : (before after : TargetStanding) → StateLists before → StateLists after → StateLists (gone_down before after)
   gone_lists (Is_up r) (Is_up s) h then = (h.0, changed_lists r.active s.active then.0)
   gone_lists (Is_up r) (Is_down active interrupted) h then = then
   gone_lists (Is_down active interrupted) after h then = h
 
-  come_lists : (first_port sequence : ℕ) (state : TargetState) → StateLists state → StateLists (come_up first_port sequence state)
+  come_lists : (first_port sequence : ℕ) (state : TargetStanding) → StateLists state → StateLists (come_up first_port sequence state)
   come_lists first_port sequence (Is_up r) h = h
   come_lists first_port sequence (Is_down active interrupted) h = (settled_lists sequence active interrupted h.0 h.1, tt)
 
-  noted_lists : (notes : List Note) (before after : TargetState) → StateLists before → StateLists after → StateLists (noted notes before after)
+  noted_lists : (notes : List Note) (before after : TargetStanding) → StateLists before → StateLists after → StateLists (noted notes before after)
   noted_lists [] before after h then = then
   noted_lists (Went_down ∷ notes) before after h then = let down = gone_lists before after h then in noted_lists notes (gone_down before after) (gone_down before after) down down
   noted_lists (Came_up first_port sequence ∷ notes) before after h then =
@@ -148,7 +148,7 @@ module _ (joins : SumsJoin) (spells : HeadersAreSpelled) (payloads : PayloadsAre
       subst (λ (s : StandingView). Lists s) (sym new.next) (new_fits before.active new.upload.request new.loads (asked new).spells.0 new.new.each
       (good_are_checked (λ (header : HeaderView) (kept : List KeptLoad). set.accepts header kept ≡ true) before.active.identity (entries_of before.active.loads) [] new.loads new.new.good) new.new.few h)
 
-  reached_lists : (life : Life) (state : TargetState) (e : Option Event) → BringsBytes e → TargetTakes life state → HasLive state → TargetIsSound set life state → TargetStaysOrIsNew set state (reached set e state) → StateLists state
+  reached_lists : (life : Life) (state : TargetStanding) (e : Option Event) → BringsBytes e → LifeTakesWhatCame life state → HasLive state → TargetIsSound set life state → TargetStaysOrIsNew set state (reached set e state) → StateLists state
       → StateLists (reached set e state)
   reached_lists (Up first_port log) (Is_up r) None now takes live sound change h = h
   reached_lists (Up first_port log) (Is_up r) (Some e) now (packets, blocks, last) live (fit, sound) change (h, has) =

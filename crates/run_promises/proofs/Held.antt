@@ -4,18 +4,18 @@ use Rattle.std.specs.Prelude.{is_none}
 use Rattle.std.proofs.lemmas.Bool.Decides.{nat_tests}
 use Rattle.load_base.specs.Ident.{IsIdent}
 use Rattle.load_base.specs.Verdicts.{ident_fault_of}
-use Rattle.load_base.specs.VerdictLaws.{ident_faults}
+use Rattle.load_base.proofs.VerdictLemmas.{ident_faults}
 use Rattle.disk_model.specs.Image.{Image}
 use Rattle.field_grammar.specs.Fields.{number, number_fields, short, short_fields}
 use Rattle.field_grammar.specs.Grammar.{Follows}
-use Rattle.field_grammar.specs.NumberLaws.{spelled-number, wide4}
-use Rattle.field_grammar.specs.TextLaws.{IsShortText, spelled-short}
+use Rattle.field_grammar.proofs.NumberLemmas.{spelled-number, wide4}
+use Rattle.field_grammar.proofs.TextLemmas.{IsShortText, spelled-short}
 use Rattle.disk_layout.specs.declared.identity.Identity.{Identity}
 use Rattle.disk_layout.specs.Contents.{entries_of}
-use Rattle.disk_layout.specs.FieldLaws.{nothing_wrong, spelled-sound}
+use Rattle.disk_layout.proofs.FieldLemmas.{nothing_wrong, spelled-sound}
 use Rattle.disk_layout.specs.Holds.{manifest_of}
 use Rattle.disk_layout.specs.Identity.{HasIdentity, IsIdentity, bank_size, ident, identity}
-use Rattle.disk_layout.specs.ManifestSpelling.{manifest_spelling}
+use Rattle.disk_layout.proofs.ManifestSpelling.{manifest_spelling}
 use Rattle.disk_layout.specs.Offsets.{IsBankSize, is_bank_size}
 use Rattle.run_promises.specs.Listing.{WhatIsHeldFits}
 

@@ -27,10 +27,10 @@ use Rattle.replay_rules.specs.MediaTraces.{InstallsAreOfMedia}
 use Rattle.replay_rules.specs.OtherEndTraces.{IsUninjected}
 use Rattle.replay_rules.specs.OwnSessionTraces.{CompletedStays}
 use Rattle.replay_rules.specs.Promises.{IsTrace}
-use Rattle.replay_rules.specs.Runs.{Follows}
+use Rattle.replay_rules.specs.Runs.{TraceFollows}
 use Rattle.exchange_trace.specs.Lines.{Line}
 use Rattle.completion_reports.specs.Reports.{ReportsAreTrue}
-use Rattle.replay_rules.specs.Causes.{AllDeniedWhereSpent, AllStoppedWhereFailed, DenialsAreForSequence, DeniedWhereSpent, BeginsSmall, EndsAs, FilesAreGood, IsOfFile, NoBadFile, NoBadFiles, SessionsEndInSteps, StoppedWhereFailed, StopsAreForVerdicts}
+use Rattle.replay_rules.specs.Causes.{AllDeniedWhereSpent, AllStoppedWhereFailed, DenialsAreForSequence, DeniedWhereSpent, BeginsSmall, EndsAs, FilesAreGood, IsOutcomeOfFile, NoBadFile, NoBadFiles, SessionsEndInSteps, StoppedWhereFailed, StopsAreForVerdicts}
 use Rattle.replay_rules.specs.Outcomes.{OutcomesHaveCauses}
 use Rattle.finish_ends.specs.Scripts.{TracesAreBounded}
 use Rattle.session_completion.specs.FinishedRuns.{FinishCompletes, IsComplete}
@@ -72,7 +72,7 @@ module _ (ended : EndedLaws) (media : InstallsAreOfMedia) (lists : CompletedList
 
   upload : (told : IsTold Upload sessions) → UploadIsInstalled set steps standing told.before told.session
   upload told =
-      let e = told_ended told.session (subst IsOfFile (sym told.completed) tt) ended.ends set steps told.before told.after told.place in
+      let e = told_ended told.session (subst IsOutcomeOfFile (sym told.completed) tt) ended.ends set steps told.before told.after told.place in
       record {
         ended = e;
         stays = stays set e.since e.step e.earlier standing accepts can.entries (subst (λ (list : List Step). IsUninjected set list) e.split is) (told.session, e.ends ∙ ap (λ (others : List EndedSession). told.session ∷ others) (sym e.others)) (rw e.ends (told.kind_is, told.completed));
@@ -80,7 +80,7 @@ module _ (ended : EndedLaws) (media : InstallsAreOfMedia) (lists : CompletedList
 
   list : (told : IsTold Info sessions) → ListIsTrue set steps told.before told.session
   list told =
-      let e = told_ended told.session (subst IsOfFile (sym told.completed) tt) ended.ends set steps told.before told.after told.place in
+      let e = told_ended told.session (subst IsOutcomeOfFile (sym told.completed) tt) ended.ends set steps told.before told.after told.place in
       record {
         ended = e;
         lists = lists_at set e.since e.step e.earlier (subst (λ (list : List Step). AllListInSession set list) e.split (lists set steps is (names set.start fits) (active set steps accepts is.carries fits))) told.session (e.ends ∙ ap (λ (others : List EndedSession). told.session ∷ others) (sym e.others)) told.kind_is told.completed;
@@ -91,7 +91,7 @@ module _ (ended : EndedLaws) (media : InstallsAreOfMedia) (lists : CompletedList
 
   denial : (text : List ℕ) (told : IsToldAs (Denied text) sessions) → DenialIsTrue set steps told.before told.session text
   denial text told =
-      let e = told_ended told.session (subst IsOfFile (sym told.came_to) tt) ended.ends set steps told.before told.after told.place in
+      let e = told_ended told.session (subst IsOutcomeOfFile (sym told.came_to) tt) ended.ends set steps told.before told.after told.place in
       record {
         ended = e;
         denied = denied_at set e.since e.step e.earlier (subst (λ (list : List Step). AllDeniedWhereSpent set list) e.split (ended.denials set steps accepts fits.identity.hw is)) text (ends_as (Denied text) told e);
@@ -99,7 +99,7 @@ module _ (ended : EndedLaws) (media : InstallsAreOfMedia) (lists : CompletedList
 
   stop : (text : List ℕ) (told : IsToldAs (TargetStopped text) sessions) → StopIsTrue set steps told.before told.session text
   stop text told =
-      let e = told_ended told.session (subst IsOfFile (sym told.came_to) tt) ended.ends set steps told.before told.after told.place in
+      let e = told_ended told.session (subst IsOutcomeOfFile (sym told.came_to) tt) ended.ends set steps told.before told.after told.place in
       record {
         ended = e;
         stopped = stopped_at set e.since e.step e.earlier (subst (λ (list : List Step). AllStoppedWhereFailed set list) e.split (ended.stops set steps accepts fits.identity.hw is)) text (ends_as (TargetStopped text) told e);
@@ -110,7 +110,7 @@ module _ (ended : EndedLaws) (media : InstallsAreOfMedia) (lists : CompletedList
 
   good_file : (kind : FileKind) (offset : ℕ) → IsToldAs (BadFile kind offset) sessions → ⊥
   good_file kind offset told =
-      let e = told_ended told.session (subst IsOfFile (sym told.came_to) tt) ended.ends set steps told.before told.after told.place in
+      let e = told_ended told.session (subst IsOutcomeOfFile (sym told.came_to) tt) ended.ends set steps told.before told.after told.place in
       good_at set e.since e.step e.earlier (subst (λ (list : List Step). NoBadFiles set list) e.split (ended.files set steps accepts fits.identity.hw (names set.start fits) begins_small can.lengths (active set steps accepts is.carries fits) is)) kind offset (ends_as (BadFile kind offset) told e)
 
   tells : TellsTrue set steps sessions standing
@@ -126,13 +126,13 @@ served_bytes media can loads are = by (files_in loads) are
 
 -- a fault-free run that was left to its last `finish`
 completes_free : FinishCompletes → (set : Setting) (steps : List Step) (standing : Option StandingView) → IsWholeRun set steps → AcceptsPermitted set.accepts → CanBeTold set.media
-    → (named : (kind : FileKind) → IsName (file_name set.start.identity.hw set.start.identity.pos kind)) → (script : List Line) → Follows set script steps → CompletesAtFinish set script steps standing
+    → (named : (kind : FileKind) → IsName (file_name set.start.identity.hw set.start.identity.pos kind)) → (script : List Line) → TraceFollows set script steps → CompletesAtFinish set script steps standing
 completes_free complete set steps standing is accepts can named script follows left up last stands active =
     subst (λ (list : List Step). IsComplete set left.before left.free list last) (sym left.split)
     (complete set script left.before left.more left.free last accepts can.lengths (record { entries = can.entries; own_files = named; bytes = served_bytes set.media can left.free.loads left.free.served.media }) left.margin (record {
       trace = subst (λ (list : List Step). IsTrace set list) left.split is.trace;
       carries = subst (λ (list : List Step). AllCarryBytes list) left.split is.carries;
-      follows = subst (λ (list : List Step). Follows set script list) left.split follows;
+      follows = subst (λ (list : List Step). TraceFollows set script list) left.split follows;
       left = left.left;
       stays_up = up;
     }) (subst (λ (list : List Step). last ≡ active_by (target_at set list) (Some last)) left.split active))

@@ -5,13 +5,13 @@ use Rattle.std.proofs.lemmas.List.{append-nil, append_assoc, length-map}
 use Rattle.std.proofs.lemmas.List.Concat.{flat_map-cons}
 use Rattle.std.proofs.lemmas.List.Elements.{All-cons, All-head, All-map, All-nil, All-weaker}
 use Rattle.field_grammar.specs.Fields.{number_bytes}
-use Rattle.field_grammar.specs.WrittenLaws.{at_most_each}
+use Rattle.field_grammar.proofs.WrittenLemmas.{at_most_each}
 use Rattle.load_base.specs.Text.{IsText}
-use Rattle.load_base.specs.TextLaws.{ident_is_text, name_is_text, part_text_is_text}
+use Rattle.load_base.proofs.TextLemmas.{ident_is_text, name_is_text, part_text_is_text}
 use Rattle.load_protocol_files.specs.declared.lcl.Part.{Part}
 use Rattle.load_protocol_files.specs.Files.{file_fields}
 use Rattle.load_protocol_files.specs.Lcl.{HardwareFits, HardwareView, InstalledFits, hardware_fields, installed_fields, lcl_fields}
-use Rattle.load_protocol_files.specs.LclLaws.{hardware_size, installed_size, lcl_size}
+use Rattle.load_protocol_files.specs.Laws.Lcl.{hardware_size, installed_size, lcl_size}
 use Rattle.disk_layout.specs.declared.manifest.Layout.{Layout}
 use Rattle.disk_layout.specs.declared.manifest.ManifestFile.{ManifestFile}
 use Rattle.disk_layout.specs.Contents.{entries_of}

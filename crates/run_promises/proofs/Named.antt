@@ -10,7 +10,7 @@ use Rattle.load_base.specs.Name.{IsName, is_name_byte}
 use Rattle.session_rules.specs.declared.outcome.FileKind.{FileKind}
 use Rattle.session_rules.specs.declared.outcome.FileKind.TheVariants.{Lci, Lcl, Lcs, Lui, Lur, Lus}
 use Rattle.session_rules.specs.FileNames.{extension, file_name}
-use Rattle.replay_rules.specs.PlacedTraceLaws.{all_append}
+use Rattle.replay_rules.proofs.PlacedTraceLemmas.{all_append}
 use Rattle.run_promises.specs.Listing.{WhatFitsNamesItsFiles}
 
 -- ---- bytes of names

@@ -5,7 +5,7 @@ use Rattle.std.specs.Map.{lookup}
 use Rattle.load_base.specs.Bytes.{same_bytes}
 use Rattle.load_base.specs.Host.{longest_file}
 use Rattle.field_grammar.specs.Answers.{answer}
-use Rattle.field_grammar.specs.ExactLaws.{answer-fault, answer-spelled, spelled_at_start}
+use Rattle.field_grammar.proofs.ExactLemmas.{answer-fault, answer-spelled, spelled_at_start}
 use Rattle.field_grammar.specs.Grammar.{IsBytes, IsDecided, Spelled}
 use Rattle.load_protocol_files.specs.declared.lur.Wanted.{Wanted}
 use Rattle.load_protocol_files.specs.Lur.{WantedFits}
@@ -14,7 +14,7 @@ use Rattle.media_lists.specs.declared.fault.ListFault.{ListFault}
 use Rattle.media_lists.specs.declared.lists.ListedFile.{ListedFile}
 use Rattle.media_lists.specs.declared.lists.LoadEntry.{LoadEntry}
 use Rattle.media_lists.specs.declared.lists.LoadsList.{LoadsList}
-use Rattle.media_check.specs.Sets.{AreFilesBytes, Media, SetView, bytes_found, entries_of, file_in, found_as, found_in, list_of, lists_in}
+use Rattle.media_check.specs.Sets.{AreFilesBytes, MediaBytes, SetView, bytes_found, entries_of, file_in, found_as, found_in, list_of, lists_in}
 use Rattle.loader_machine.specs.Machine.{loads_in, media_of, wanted_entry}
 use Rattle.run_promises.specs.Promises.{CanBeTold}
 use Rattle.run_promises.specs.TellableSets.{IsTellableFile, IsTellableLoad, SetsCanBeTold}
@@ -64,13 +64,13 @@ abbrev IsTellable : List ℕ → Type 0
 IsTellable bytes = IsBytes bytes × (length bytes ≤ longest_file)
 
 -- what is found is this file, or one after it
-first_or_later : (media : Media) (entry : ListedFile) (entries : List ListedFile) (name bytes : List ℕ) (is_this : Bool) → (media.listed entry ≡ Some bytes → IsTellable bytes)
+first_or_later : (media : MediaBytes) (entry : ListedFile) (entries : List ListedFile) (name bytes : List ℕ) (is_this : Bool) → (media.listed entry ≡ Some bytes → IsTellable bytes)
     → (bytes_found (lookup (same_bytes name) (map (file_in media) entries)) ≡ Some bytes → IsTellable bytes)
     → bytes_found (cond is_this (Some (file_in media entry).1) (lookup (same_bytes name) (map (file_in media) entries))) ≡ Some bytes → IsTellable bytes
 first_or_later media entry entries name bytes true this later e = this e
 first_or_later media entry entries name bytes false this later e = later e
 
-found_is_tellable : (media : Media) (entries : List ListedFile) → AllByRecursion (IsTellableFile media) entries → (name bytes : List ℕ)
+found_is_tellable : (media : MediaBytes) (entries : List ListedFile) → AllByRecursion (IsTellableFile media) entries → (name bytes : List ℕ)
     → bytes_found (lookup (same_bytes name) (map (file_in media) entries)) ≡ Some bytes → IsTellable bytes
 found_is_tellable media [] all name bytes e = absurd cc
 found_is_tellable media (entry ∷ entries) (one, all) name bytes e =

@@ -7,10 +7,10 @@ use Rattle.session_rules.specs.Loader.{EndedSession, LoaderSession}
 use Rattle.session_rules.specs.LoaderLog.{loader_view}
 use Rattle.loader_machine.specs.Machine.{all_sessions, open_session, open_sessions}
 use Rattle.replay_rules.specs.BothEnds.{Setting, loader_at}
-use Rattle.replay_rules.specs.Causes.{IsOfFile, SessionsEndInSteps}
+use Rattle.replay_rules.specs.Causes.{IsOutcomeOfFile, SessionsEndInSteps}
 use Rattle.run_promises.specs.Promises.{EndsIn}
 
-module _ (session : EndedSession) (of_file : IsOfFile session.outcome) where
+module _ (session : EndedSession) (of_file : IsOutcomeOfFile session.outcome) where
   none_yet : (older newer : List EndedSession) → [] ≡ newer ++ session ∷ older → ⊥
   none_yet older [] is = absurd cc
   none_yet older (x ∷ newer) is = absurd cc
@@ -35,7 +35,7 @@ module _ (session : EndedSession) (of_file : IsOfFile session.outcome) where
   not_open : (live : Option LoaderSession) (more later : List EndedSession) → open_sessions live ≡ more ++ session ∷ later → ⊥
   not_open None more later is = none_yet later more is
   not_open (Some s) [] later is =
-      let same : open_session s ≡ session = cc in subst (λ (x : EndedSession). IsOfFile x.outcome) (sym same) of_file
+      let same : open_session s ≡ session = cc in subst (λ (x : EndedSession). IsOutcomeOfFile x.outcome) (sym same) of_file
   not_open (Some s) (x ∷ more) later is = none_yet later more (cc)
 
   turned : (ended before later : List EndedSession) → reverse ended ≡ before ++ session ∷ later → (newer : List EndedSession) × (ended ≡ newer ++ session ∷ reverse before)

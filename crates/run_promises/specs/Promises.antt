@@ -27,7 +27,7 @@ use Rattle.replay_rules.specs.ListTraces.{ListsInSession}
 use Rattle.replay_rules.specs.MediaTraces.{LengthsAreTold}
 use Rattle.replay_rules.specs.OwnSessionTraces.{StaysInstalled}
 use Rattle.replay_rules.specs.Promises.{AllOfMedia, IsTrace, NoneGoesDown}
-use Rattle.replay_rules.specs.Runs.{Follows, IsWithinMargin}
+use Rattle.replay_rules.specs.Runs.{TraceFollows, IsWithinMargin}
 use Rattle.completion_reports.specs.Reports.{AllReportsAreTrue}
 use Rattle.replay_rules.specs.Causes.{IsDeniedForSequence, IsStoppedByVerdict}
 use Rattle.replay_rules.specs.Outcomes.{AllEndByCause}
@@ -157,8 +157,8 @@ pub record KeepsPromises (set : Setting) (steps : List Step) (sessions : List En
   pub reports : AcceptsPermitted set.accepts → AllReportsAreTrue set steps
   pub causes : AllEndByCause set steps
   pub tells : AcceptsPermitted set.accepts → CanBeTold set.media → StandingFits set.start → NothingInjected steps → TellsTrue set steps sessions standing
-  pub bounded : (script : List Line) → Follows set script steps → length steps ≤ most_of_lines 0 script + 1
-  pub completes : AcceptsPermitted set.accepts → CanBeTold set.media → StandingFits set.start → (script : List Line) → Follows set script steps → CompletesAtFinish set script steps standing
+  pub bounded : (script : List Line) → TraceFollows set script steps → length steps ≤ most_of_lines 0 script + 1
+  pub completes : AcceptsPermitted set.accepts → CanBeTold set.media → StandingFits set.start → (script : List Line) → TraceFollows set script steps → CompletesAtFinish set script steps standing
 
 abbrev pub RunsKeepPromises : Type 0
 RunsKeepPromises = (set : Setting) (steps : List Step) (standing : Option StandingView) → IsWholeRun set steps

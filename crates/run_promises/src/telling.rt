@@ -14,6 +14,7 @@ use media_lists::LoadEntry;
 pub fn can_be_told(set: &MediaSet)
     ensures { CanBeTold (media_of (set_view set.now)) }
 {
+    // For the proof: does nothing.
     set.files_are_bytes();
     if let Some(list) = set.loads() {
         entries_fit(list.loads.as_slice());
@@ -28,7 +29,7 @@ fn entries_fit(entries: &[LoadEntry])
     }
 }
 
-// The name and the part number are such by their types.
+/// The name and the part number are such by their types.
 fn entry_fits(entry: &LoadEntry)
     ensures { IsTellableLoad entry.now }
 {

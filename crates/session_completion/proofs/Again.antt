@@ -19,7 +19,7 @@ use Rattle.transfer_end.specs.Packets.{belongs, heard_answer, packet_in, transfe
 use Rattle.transfer_end.specs.Transfers.{LinkEnd, Receives, Sends, end_packet}
 use Rattle.transfer_end.specs.Views.{EndView, TransferView}
 use Rattle.accept_rules.specs.Permissions.{Accepts}
-use Rattle.session_rules.specs.BufferLaws.{SumsJoin}
+use Rattle.session_rules.proofs.BufferLemmas.{SumsJoin}
 use Rattle.session_rules.specs.Loader as loader
 use Rattle.session_rules.specs.Loader.{LoaderDecision, LoaderSession, LoaderView, loader_posts}
 use Rattle.session_rules.specs.MediaFiles.{Media}
@@ -27,11 +27,11 @@ use Rattle.session_rules.specs.Target as target
 use Rattle.session_rules.specs.Target.{TargetDecision, TargetSession, TargetView, target_posts}
 use Rattle.session_rules.specs.TargetRows.{RowView, Gives_lci, Writes_lcs, Writes_lcl, Gives_lui, Gives_denial, Writes_ready, Awaits_lur, Reads_file, Writes_progress, Writes_stop, Writes_completion, Over}
 use Rattle.replay_rules.specs.BothEnds.{Setting}
-use Rattle.transfer_completion.specs.BlockLaws.{block_small, eq_false, eq_true, lt_true}
-use Rattle.transfer_completion.specs.Laws.{IsWhole}
+use Rattle.transfer_completion.proofs.BlockLemmas.{block_small, eq_false, eq_true, lt_true}
+use Rattle.transfer_completion.specs.Laws.{TookLastBlock}
 use Rattle.transfer_completion.specs.Positions.{HasAsked, IsIn, IsLast, Position, Rests, last_at, live_at}
-use Rattle.transfer_completion.specs.TalkLaws.{data_read}
-use Rattle.session_completion.specs.Clean.{IsAnswered, IsNext, IsRepeated}
+use Rattle.transfer_completion.proofs.TalkLemmas.{data_read}
+use Rattle.session_completion.specs.Clean.{IsAnsweredAgain, IsNext, IsRepeated}
 use Rattle.session_completion.specs.Course.{IsInUpload, asker, file_in, next_row, role_in}
 use Rattle.session_completion.specs.Laws.{NextComesAgain}
 use Rattle.session_completion.specs.Stages.{InRow, KeepsWhole, Meets, Opposite, TargetBefore, Where, asked, closing, down, early, end_at, ending, over, to_loader, to_target, up}
@@ -44,23 +44,23 @@ use Rattle.session_completion.proofs.Stands.{all_stand, next_is, none_is}
 le_true : (a b : ℕ) → a ≤ b → nat_le a b ≡ true
 le_true a b h = grind (arith, nat_tests)
 
-some_blocks : (file : List ℕ) (s : Sender) (r : Receiver) → IsWhole file s r (Ack s.sent) → 0 < s.sent
+some_blocks : (file : List ℕ) (s : Sender) (r : Receiver) → TookLastBlock file s r (Ack s.sent) → 0 < s.sent
 some_blocks file s r whole = let l = whole.last in omega arith
 
 -- what the sending end sent last
-last_block : (file : List ℕ) (s : Sender) (r : Receiver) → IsWhole file s r (Ack s.sent) → sender_packet s ≡ Data s.sent (block_of s.file s.size s.sent)
+last_block : (file : List ℕ) (s : Sender) (r : Receiver) → TookLastBlock file s r (Ack s.sent) → sender_packet s ≡ Data s.sent (block_of s.file s.size s.sent)
 last_block file s r whole = rw (eq_false s.sent 0 (λ e. apart e (some_blocks file s r whole))) refl
   where
     apart : s.sent ≡ 0 → 0 < s.sent → ⊥
     apart e lt = absurd (omega arith)
 
-is_again : (file : List ℕ) (s : Sender) (r : Receiver) → r.phase ≡ Rattle.tftp_link.specs.declared.phase.Phase.TheVariants.Finished → IsWhole file s r (Ack s.sent) → receiver_answer r (Data s.sent (block_of s.file s.size s.sent)) ≡ Again
+is_again : (file : List ℕ) (s : Sender) (r : Receiver) → r.phase ≡ Rattle.tftp_link.specs.declared.phase.Phase.TheVariants.Finished → TookLastBlock file s r (Ack s.sent) → receiver_answer r (Data s.sent (block_of s.file s.size s.sent)) ≡ Again
 is_again file s r phase whole =
     let small = block_small s.file s.size s.sent in
     let some = some_blocks file s r whole in
     rw (phase, whole.sent, lt_true 0 s.sent some, eq_true s.sent s.sent refl, whole.size, le_true (length (block_of s.file s.size s.sent)) s.size small) refl
 
-sends_ack : (file : List ℕ) (s : Sender) (r : Receiver) → IsWhole file s r (Ack s.sent) → receiver_packet r ≡ Ack s.sent
+sends_ack : (file : List ℕ) (s : Sender) (r : Receiver) → TookLastBlock file s r (Ack s.sent) → receiver_packet r ≡ Ack s.sent
 sends_ack file s r whole = rw (whole.sent, eq_false s.sent 0 (λ e. apart e (some_blocks file s r whole))) refl
   where
     apart : s.sent ≡ 0 → 0 < s.sent → ⊥
@@ -156,7 +156,7 @@ not_59 own i low = eq_false (own + i) 59 (λ e. absurd (omega arith))
 
 module _ (set : Setting) (wanted : List Wanted) (loads : List LoadView) (joins : SumsJoin) (sequence : set.start.sequence < 4294967295) where
   abbrev Again_by : World → DatagramView → Type 0
-  Again_by c d = IsRepeated c d ⊎ IsAnswered set c d
+  Again_by c d = IsRepeated c d ⊎ IsAnsweredAgain set c d
 
   -- the end that asked waits
   asker_waits : (c : World) (getter poster : Side) (row : RowView) → Opposite getter poster → IsInUpload row → asker row ≡ poster → InRow set wanted c sides.Loader row [] → TargetBefore set c.target row → waits c poster ≡ true
@@ -177,7 +177,7 @@ module _ (set : Setting) (wanted : List Wanted) (loads : List LoadView) (joins :
   -- the sender is ticked, and its last block is acknowledged again
   answered : (n : ℕ) (c : World) (getter poster : Side) (own peer i : ℕ) (yours : Position) (before ahead : List DatagramView) (row : RowView) (file : List ℕ) (s : Sender) (r : Receiver) → Meets set n c getter poster own peer i (i + 1) (IsIn (Sends s)) yours before ahead
       → (yours ≡ Rests) ⊎ ((role : Rattle.transfer_end.specs.Transfers.Role) × (yours ≡ HasAsked role)) → IsBytes file → KeepsWhole c poster own peer i file s r → InRow set wanted c getter row []
-      → IsAnswered set c (datagram poster (peer + i) (own + i) (Ack s.sent))
+      → IsAnsweredAgain set c (datagram poster (peer + i) (own + i) (Ack s.sent))
   answered n c getter poster own peer i yours before ahead row file s r m rests bytes keeps session =
       let same = other_is getter poster m.opposite in
       let live = ap (λ (l : Option TransferView). belongs l (own + i) (peer + i)) m.you.live ∙ no_longer peer own i yours rests in

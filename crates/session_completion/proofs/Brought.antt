@@ -22,19 +22,19 @@ use Rattle.session_rules.specs.Loader.{Advances, Begins, Begins_over, Continues,
 use Rattle.session_rules.specs.LoaderLog.{LoaderReading, SessionLog, loader_extended, loader_reading, loader_reading_changed, loader_view, newest, session_view, with_done}
 use Rattle.session_rules.specs.MediaFiles.{Media, wanted_of}
 use Rattle.session_rules.specs.NewConfigs.{AreOfMedia, IsChecked, IsWanted}
-use Rattle.session_rules.specs.InstallationLaws.{good_are_checked}
+use Rattle.session_rules.proofs.InstallationLemmas.{good_are_checked}
 use Rattle.session_rules.specs.KeptLoads.{kept_loads, types_in}
 use Rattle.session_rules.specs.TargetLog.{standing_after}
-use Rattle.session_rules.specs.SessionLaws.{begun_by, decision_begins}
+use Rattle.session_rules.proofs.SessionLemmas.{begun_by, decision_begins}
 use Rattle.session_rules.specs.Sessions.{started_by}
 use Rattle.transfer_end.specs.Transfers.{Transfer}
-use Rattle.replay_rules.specs.BothEnds.{Is_down, Is_up, Setting, TargetState, changed, loader_at, noted, reached, target_at}
+use Rattle.replay_rules.specs.BothEnds.{Is_down, Is_up, Setting, TargetStanding, changed, loader_at, noted, reached, target_at}
 use Rattle.replay_rules.specs.Changes.{AllBroughtAreGood, AllStayOrAreNew, AreGood, BroughtIsGood, TargetStaysOrIsNew}
 use Rattle.replay_rules.specs.FaultFree.{IsNoStart, NothingInjected}
 use Rattle.replay_rules.specs.Histories.{IsMadeOf, active_at, active_in, brings, requested_in}
 use Rattle.replay_rules.specs.OwnSessionTraces.{AllInstalledInSession, InstalledWhereCompleted, NoneStarts}
-use Rattle.transfer_completion.specs.BlockLaws.{lt_false, lt_true}
-use Rattle.replay_rules.specs.Promises.{AllOfMedia, BroughtIsOfMedia, HasCompleted, HasEnded, HasParts, NoneGoesDown}
+use Rattle.transfer_completion.proofs.BlockLemmas.{lt_false, lt_true}
+use Rattle.replay_rules.specs.Promises.{AllOfMedia, BroughtIsOfMedia, HasCompleted, HasEnded, HavePartsAsked, NoneGoesDown}
 
 -- ---- the step in which the session ended
 
@@ -163,7 +163,7 @@ active_if before after new e = by (before.sequence == after.sequence) e
 abbrev StaysOrRises : (before after : StandingView) → Type 0
 StaysOrRises before after = (after ≡ before) ⊎ (before.sequence < after.sequence)
 
-stays_or_rises : (set : Setting) (state : TargetState) (e : Option Event) → TargetStaysOrIsNew set state (reached set e state) → StaysOrRises (active_in state) (active_in (reached set e state))
+stays_or_rises : (set : Setting) (state : TargetStanding) (e : Option Event) → TargetStaysOrIsNew set state (reached set e state) → StaysOrRises (active_in state) (active_in (reached set e state))
 stays_or_rises set (Is_up r) None change = inl refl
 stays_or_rises set (Is_up r) (Some e) (inl is) = inl is
 stays_or_rises set (Is_up r) (Some e) (inr new) =
@@ -189,7 +189,7 @@ alone first before after last (inr one) more (inr two) sum = absurd (omega (arit
 -- come those that were kept.
 pub record IsInstalledOver (set : Setting) (parts : List (List ℕ)) (before s : StandingView) : Type 0 where
   pub new : List LoadView
-  pub parts_are : HasParts parts new
+  pub parts_are : HavePartsAsked parts new
   pub checked : AllByRecursion (IsChecked set.start.identity) new
   pub media : AreOfMedia set.media new
   pub is : s ≡ standing_after before new
@@ -206,7 +206,7 @@ same_first {A} (x ∷ xs) (y ∷ ys) us vs size e =
     ap (λ (z : A). z ∷ xs) head ∙ ap (λ (zs : List A). y ∷ zs) (same_first xs ys us vs count tail)
 
 -- what an installation brings is made of the same new loads, whatever is said of them
-same_new : (before : TargetState) (P Q : List LoadView → Type 0) (s : StandingView) (one : IsMadeOf before P s) (two : IsMadeOf before Q s) → one.new ≡ two.new
+same_new : (before : TargetStanding) (P Q : List LoadView → Type 0) (s : StandingView) (one : IsMadeOf before P s) (two : IsMadeOf before Q s) → one.new ≡ two.new
 same_new before P Q s one two =
     same_first one.new two.new (kept_loads (types_in one.new) (active_in before).loads) (kept_loads (types_in two.new) (active_in before).loads)
     (AllZip-long IsWanted (requested_in before) one.new one.wanted ∙ sym (AllZip-long IsWanted (requested_in before) two.new two.wanted)) (ap (λ (x : StandingView). x.loads) (sym one.is ∙ two.is))
@@ -223,20 +223,20 @@ knows_before set [] earlier k = k
 knows_before set (s ∷ since) earlier k = knows_before set since earlier (record { good = k.good.1; media = k.media.1; stays = k.stays.1; injected = k.injected.1 })
 
 module _ (set : Setting) where
-  abbrev then_at : Step → List Step → TargetState
+  abbrev then_at : Step → List Step → TargetStanding
   then_at s earlier = reached set (event_for sides.Target (posted_in earlier) s.given) (target_at set earlier)
 
   active_then : (s : Step) (earlier : List Step) → s.notes ≡ [] → active_at set (s ∷ earlier) ≡ active_in (then_at s earlier)
   active_then s earlier quiet = ap (λ (notes : List Note). active_in (noted notes (target_at set earlier) (then_at s earlier))) quiet
 
   -- an install step
-  brought_over : (s : Step) (earlier : List Step) (parts : List (List ℕ)) (new : StandingView) → s.notes ≡ [] → KnowsBrought set (s ∷ earlier) → brings set s earlier ≡ Some new → IsMadeOf (target_at set earlier) (HasParts parts) new
+  brought_over : (s : Step) (earlier : List Step) (parts : List (List ℕ)) (new : StandingView) → s.notes ≡ [] → KnowsBrought set (s ∷ earlier) → brings set s earlier ≡ Some new → IsMadeOf (target_at set earlier) (HavePartsAsked parts) new
       → IsInstalledOver set parts (active_at set earlier) (active_at set (s ∷ earlier))
   brought_over s earlier parts new quiet k brought asked =
       let good = subst (λ (o : Option StandingView). BroughtIsGood set (target_at set earlier) o) brought k.good.0 in
       let media = subst (λ (o : Option StandingView). BroughtIsOfMedia set (target_at set earlier) o (s ∷ earlier)) brought k.media.0 k.injected in
-      let one = same_new (target_at set earlier) (AreGood set (active_at set earlier)) (HasParts parts) new good asked in
-      let two = same_new (target_at set earlier) (AreOfMedia set.media) (HasParts parts) new media asked in
+      let one = same_new (target_at set earlier) (AreGood set (active_at set earlier)) (HavePartsAsked parts) new good asked in
+      let two = same_new (target_at set earlier) (AreOfMedia set.media) (HavePartsAsked parts) new media asked in
       record {
         new = asked.new;
         parts_are = asked.are_new;
@@ -274,7 +274,7 @@ record InstallIn (set : Setting) (since : List Step) (start : Step) (before : Li
   new : StandingView
   split : since ≡ later ++ install ∷ between
   brought : brings set install (between ++ start ∷ before) ≡ Some new
-  asked : IsMadeOf (target_at set (between ++ start ∷ before)) (HasParts parts) new
+  asked : IsMadeOf (target_at set (between ++ start ∷ before)) (HavePartsAsked parts) new
 
 install_in : (set : Setting) (since : List Step) (start : Step) (before : List Step) (hw pos : List ℕ) (parts : List (List ℕ)) → start.given ≡ Upload_started hw pos parts → NoneStarts since
     → EndedIn set since (start ∷ before) → AllInstalledInSession set (since ++ start ∷ before) → InstallIn set since start before parts
@@ -294,13 +294,13 @@ install_in set since start before hw pos parts starts none e all =
       new = i.new;
       split = e.split ∙ (ap (λ (xs : List Step). e.later ++ xs) own ∙ sym (append_assoc e.later i.since (i.install ∷ i.between)));
       brought = ap (λ (xs : List Step). brings set i.install (i.between ++ xs)) rest ∙ i.brought;
-      asked = subst (λ (ps : List (List ℕ)). IsMadeOf (target_at set (i.between ++ start ∷ before)) (HasParts ps) i.new) same
-          (subst (λ (xs : List Step). IsMadeOf (target_at set (i.between ++ xs)) (HasParts i.parts) i.new) (sym rest) i.asked);
+      asked = subst (λ (ps : List (List ℕ)). IsMadeOf (target_at set (i.between ++ start ∷ before)) (HavePartsAsked ps) i.new) same
+          (subst (λ (xs : List Step). IsMadeOf (target_at set (i.between ++ xs)) (HavePartsAsked i.parts) i.new) (sym rest) i.asked);
     }
 
 -- where one sequence number was added since the start, what is active was installed over what was active then
 over_start : (set : Setting) (later between before : List Step) (install start : Step) (parts : List (List ℕ)) (new : StandingView) → NoneGoesDown (later ++ install ∷ (between ++ start ∷ []))
-    → KnowsBrought set (later ++ install ∷ ((between ++ start ∷ []) ++ before)) → brings set install ((between ++ start ∷ []) ++ before) ≡ Some new → IsMadeOf (target_at set ((between ++ start ∷ []) ++ before)) (HasParts parts) new
+    → KnowsBrought set (later ++ install ∷ ((between ++ start ∷ []) ++ before)) → brings set install ((between ++ start ∷ []) ++ before) ≡ Some new → IsMadeOf (target_at set ((between ++ start ∷ []) ++ before)) (HavePartsAsked parts) new
     → (active_at set (later ++ install ∷ ((between ++ start ∷ []) ++ before))).sequence ≡ (active_at set before).sequence + 1
     → IsInstalledOver set parts (active_at set before) (active_at set (later ++ install ∷ ((between ++ start ∷ []) ++ before)))
 over_start set later between before install start parts new quiet knows brought asked sum =
@@ -333,5 +333,5 @@ active_is_installed set since start before hw pos parts starts none quiet live o
         let steps : since ++ start ∷ [] ≡ i.later ++ i.install ∷ (i.between ++ start ∷ []) = ap (λ (xs : List Step). xs ++ start ∷ []) i.split ∙ append_assoc i.later (i.install ∷ i.between) (start ∷ []) in
         subst (λ (xs : List Step). IsInstalledOver set parts (active_at set before) (active_at set xs)) (sym is)
         (over_start set i.later i.between before i.install start parts i.new (subst (λ (xs : List Step). NoneGoesDown xs) steps quiet) (subst (λ (xs : List Step). KnowsBrought set xs) is knows)
-        (ap (λ (xs : List Step). brings set i.install xs) (sym behind) ∙ i.brought) (subst (λ (xs : List Step). IsMadeOf (target_at set xs) (HasParts parts) i.new) behind i.asked)
+        (ap (λ (xs : List Step). brings set i.install xs) (sym behind) ∙ i.brought) (subst (λ (xs : List Step). IsMadeOf (target_at set xs) (HavePartsAsked parts) i.new) behind i.asked)
         (ap (λ (xs : List Step). (active_at set xs).sequence) (sym is) ∙ sum))

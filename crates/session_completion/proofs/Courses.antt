@@ -23,29 +23,29 @@ use Rattle.load_header.specs.Header.{HeaderView, header}
 use Rattle.load_header.specs.HeaderFields.{HeaderSpells, IsHeaderFile, header_size}
 use Rattle.load_protocol_files.specs.declared.lur.Wanted.{Wanted}
 use Rattle.session_rules.specs.Buffers.{Sums, buffer_size, buffered, summed}
-use Rattle.session_rules.specs.BufferLaws.{SumsJoin}
+use Rattle.session_rules.proofs.BufferLemmas.{SumsJoin}
 use Rattle.accept_rules.specs.declared.kept.KeptLoad.{KeptLoad}
-use Rattle.session_rules.specs.KeptLaws.{kept_same, types_same}
+use Rattle.session_rules.proofs.KeptLemmas.{kept_same, types_same}
 use Rattle.session_rules.specs.KeptLoads.{kept_entries, kept_loads, said_type, told_loads, types_in, types_of, with_kept}
 use Rattle.session_rules.specs.NewConfigs.{AreGoodAfter, IsAsSaid, IsGoodLoad, IsWanted, files_in, kept_beside}
 use Rattle.session_rules.specs.TargetRows.{RowView, Gives_lui, Writes_ready, Awaits_lur, Reads_file, Writes_progress, Kept_bytes, Kept_sums, load_entry_of, file_move, placed_view, said_length, view_judged_in, view_moved, header_move, placed_view_if, with_header_view, new_upload_view, request_move}
 use Rattle.session_rules.specs.Uploads.{OpenLoadView, UploadView, Judgement, Accepts_file, Accepts_header, More_files, Next_load, Complete, Next, covered, covered_header, files_of, judge_file, judge_header, next_entry, next_name, next_with, entry_name, load_reason, next_number, is_for, need_of, next_wanted, planned_load, is_last, kept_after, kept_at_last, load_total, loads_at}
 use Rattle.replay_rules.specs.BothEnds.{Setting}
-use Rattle.transfer_completion.specs.BlockLaws.{eq_true, lt_true, lt_false}
+use Rattle.transfer_completion.proofs.BlockLemmas.{eq_true, lt_true, lt_false}
 use Rattle.session_completion.specs.Course.{Course, IsFine, IsStep, next_row, file_in, IsLater, IsAfterRequest}
 use Rattle.std.proofs.lemmas.Slice.Eq.{bytes_eq-Decides}
 use Rattle.transfer_completion.specs.Talks.{FitsBlocks}
 use Rattle.exchange_trace.specs.declared.trace.Side.{Side}
 use Rattle.exchange_trace.specs.declared.trace.Side.TheVariants as sides
 use Rattle.session_rules.specs.declared.outcome.FileKind.TheVariants.{Lui, Lur, Lus}
-use Rattle.session_completion.specs.GoodRequests.{AreFiles, FilesAreRead, GoodLoadsLeadOn}
+use Rattle.session_completion.specs.GoodRequests.{HaveNamedFiles, FilesAreRead, GoodLoadsLeadOn}
 use Rattle.replay_rules.specs.ListTraces.{OwnFilesAreNamed}
 use Rattle.session_rules.specs.Reports.{lur_file}
-use Rattle.field_grammar.specs.ExactLaws.{answer-spelled, spelled_at_start}
+use Rattle.field_grammar.proofs.ExactLemmas.{answer-spelled, spelled_at_start}
 use Rattle.replay_rules.specs.FaultFree.{AreServed, IsGranted}
 use Rattle.std.proofs.lemmas.List.Folds.{concat-append}
 use Rattle.field_grammar.specs.Fields.{number_bytes}
-use Rattle.field_grammar.specs.NumberLaws.{length_number_bytes}
+use Rattle.field_grammar.proofs.NumberLemmas.{length_number_bytes}
 
 -- ---- lists
 
@@ -686,7 +686,7 @@ files_at : (P : FileView → Type 0) (done : List LoadView) (load : LoadView) (r
 files_at P [] load rest all = (all_split P load.files (files_in rest) all).0
 files_at P (d ∷ done) load rest all = files_at P done load rest (all_split P d.files (files_in (done ++ load ∷ rest)) all).1
 
-all_ready : (joins : SumsJoin) → HeadersAreRead → (set : Setting) (wanted : List Wanted) (loads : List LoadView) → AreServed set wanted loads → AreFiles wanted loads → AreReadyLoads joins set wanted loads
+all_ready : (joins : SumsJoin) → HeadersAreRead → (set : Setting) (wanted : List Wanted) (loads : List LoadView) → AreServed set wanted loads → HaveNamedFiles wanted loads → AreReadyLoads joins set wanted loads
 all_ready joins read set wanted loads served files done load rest e =
     let (w, at, is) = zip_at IsWanted wanted done load rest (subst (λ (xs : List LoadView). AllZip IsWanted wanted xs) (sym e) served.each) in
     let kept = kept_beside (entries_of set.start.loads) (done ++ load ∷ []) in

@@ -17,8 +17,8 @@ use Rattle.session_rules.specs.Loader.{LoaderSession, LoaderView, loader_posts}
 use Rattle.session_rules.specs.LoaderLog.{loader_view, SessionLog, session_view}
 use Rattle.session_rules.specs.Target.{TargetSession, TargetView, target_after, target_posts}
 use Rattle.session_rules.specs.TargetLog.{TargetReading, target_view, TargetSessionLog, session_view as target_session_view}
-use Rattle.replay_rules.specs.BothEnds.{Is_down, Is_up, Setting, TargetState, loader_at, target_at, waiting, waits_in}
-use Rattle.replay_rules.specs.ChangeLaws.{HasTarget, has_target}
+use Rattle.replay_rules.specs.BothEnds.{Is_down, Is_up, Setting, TargetStanding, loader_at, target_at, waiting, waits_in}
+use Rattle.replay_rules.proofs.ChangeLemmas.{HasTarget, has_target}
 use Rattle.replay_rules.specs.Changes.{ChangesAreNew}
 use Rattle.replay_rules.specs.Histories.{active_at, active_in, setting_after, setting_from}
 use Rattle.replay_rules.specs.Due.{AllDue, due_of_loader, due_of_target}
@@ -51,7 +51,7 @@ loader_due_so : (set : Setting) (steps : List Step) (e : Option Event) → due_o
 loader_due_so set steps None = refl
 loader_due_so set steps (Some e) = refl
 
-target_due_so : (set : Setting) (state : TargetState) (v : TargetView) (e : Option Event) → Some v ≡ kept_by state → due_of_target set state e ≡ target_says set.accepts (Some v) e
+target_due_so : (set : Setting) (state : TargetStanding) (v : TargetView) (e : Option Event) → Some v ≡ kept_by state → due_of_target set state e ≡ target_says set.accepts (Some v) e
 target_due_so set (Is_up r) v None is = refl
 target_due_so set (Is_up r) v (Some e) is = ap (λ (x : TargetView). target_posts set.accepts x e) (some_same (sym is))
   where
@@ -156,7 +156,7 @@ target_live_so : (r : TargetReading) (live : Option TargetSessionLog) → is_som
 target_live_so r None = refl
 target_live_so r (Some s) = refl
 
-pub target_so : (set : Setting) (state : TargetState) (v : TargetView) → Some v ≡ kept_by state → (is_some v.live ≡ waits_in state) × (v.end.retries ≡ retries_in state)
+pub target_so : (set : Setting) (state : TargetStanding) (v : TargetView) → Some v ≡ kept_by state → (is_some v.live ≡ waits_in state) × (v.end.retries ≡ retries_in state)
 target_so set (Is_up r) v is = (ap (λ (x : TargetView). is_some x.live) (same is) ∙ target_live_so r r.live, ap (λ (x : TargetView). x.end.retries) (same is))
   where
     same : {x y : TargetView} → Some x ≡ Some y → x ≡ y
@@ -233,7 +233,7 @@ since_leads keeps set first (s ∷ since) base before from led due honest inject
 
 -- ---- the start
 
-up_is : (state : TargetState) (ports : ℕ) → IsReadyFor state ports → (r : TargetReading) × (state ≡ Is_up r)
+up_is : (state : TargetStanding) (ports : ℕ) → IsReadyFor state ports → (r : TargetReading) × (state ≡ Is_up r)
 up_is (Is_up r) ports ready = (r, refl)
 up_is (Is_down active interrupted) ports ready = absurd ready
 
@@ -247,7 +247,7 @@ fault_free_runs_lead keeps set steps free due honest =
     let due_so : AllDue set (free.since ++ free.start ∷ free.before) = subst (λ (ss : List Step). AllDue set ss) free.split due in
     let found : World = record { loader = loader_view (loader_at set free.before); target = target_view r; posts = [] } in
     let from_start = due_before set free.since (free.start ∷ free.before) due_so in
-    let was : IsWorldOf set free.before (posted_in free.before) found = record { loader_is = refl; target_is = sym (ap (λ (x : TargetState). kept_by x) is_up); posted_is = append-nil (posted_in free.before); due = from_start.1 } in
+    let was : IsWorldOf set free.before (posted_in free.before) found = record { loader_is = refl; target_is = sym (ap (λ (x : TargetStanding). kept_by x) is_up); posted_is = append-nil (posted_in free.before); due = from_start.1 } in
     let is_start : stepped set found (event_for sides.Loader (posted_in free.before) free.start.given) (event_for sides.Target (posted_in free.before) free.start.given) ≡ started set free.parts found
     = ap (λ (h : HappeningView). stepped set found (event_for sides.Loader (posted_in free.before) h) (event_for sides.Target (posted_in free.before) h)) free.starts
     ∙ loader_alone set found (Starts_upload set.start.identity.hw set.start.identity.pos free.parts) in
@@ -264,7 +264,7 @@ fault_free_runs_lead keeps set steps free due honest =
       leads = led.leads;
     }
 
-active_is_target : (set : Setting) (state : TargetState) → HasTarget set state → (active_in state).identity ≡ set.start.identity
+active_is_target : (set : Setting) (state : TargetStanding) → HasTarget set state → (active_in state).identity ≡ set.start.identity
 active_is_target set (Is_up r) has = has
 active_is_target set (Is_down active interrupted) has = has.0
 

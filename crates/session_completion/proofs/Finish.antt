@@ -9,11 +9,11 @@ use Rattle.exchange_trace.specs.Happenings.{DatagramView, other}
 use Rattle.exchange_trace.specs.Posts.{numbered}
 use Rattle.replay_rules.specs.BothEnds.{Setting}
 use Rattle.session_completion.specs.Worlds.{World, delivered, ticked, retried, waits, last_of}
-use Rattle.session_completion.specs.Clean.{Clean, goes, StandsAt, AreAmong, IsNext}
+use Rattle.session_completion.specs.Clean.{Clean, goes, WorldStandsAt, AreAmong, IsNext}
 use Rattle.session_completion.specs.Laws.{CleanLaws, ComesOut, retries_of_getter}
 use Rattle.transfer_completion.specs.Replies.{IsOld, IsLighter}
 use Rattle.session_completion.specs.Safety.{retries_of, ticked_at}
-use Rattle.session_completion.specs.Finish.{tick_in, done, delivers, ticks, ComesToEnd, FinishEnds}
+use Rattle.session_completion.specs.Finish.{tick_in, done, delivers, ticks, ComesToEnd, UploadFinishEnds}
 use Rattle.session_completion.proofs.Equal.{next_or_not}
 use Rattle.session_completion.proofs.Queues.{total, some_weight, falls, Queued, queued_behind, queued_wider, queued_right, queued_both, queued_past, next_drop, none_drop, first_or_none, drop_more}
 use Rattle.session_completion.proofs.Safety.{stands, among_more, among_wider, among_right, among_itself, among_old, is_among, ticking_is_safe, tick_posts, waits_same}
@@ -29,12 +29,12 @@ module _ (set : Setting) (loads : List LoadView) (laws : CleanLaws) where
   -- ---- a datagram that is delivered
 
   data Delivery (n : ℕ) (c w : World) (d : DatagramView) (l t : ℕ) : Type 0 where
-    old : (new : List DatagramView) → IsOld c.posts new → IsLighter d new → (delivered set w d).posts ≡ w.posts ++ new → StandsAt set loads n c (delivered set w d) l t → (IsNext n c d → ⊥)
+    old : (new : List DatagramView) → IsOld c.posts new → IsLighter d new → (delivered set w d).posts ≡ w.posts ++ new → WorldStandsAt set loads n c (delivered set w d) l t → (IsNext n c d → ⊥)
         → ((posts : List DatagramView) → (delivered set (retried c l t posts) d).posts ≡ posts ++ new) → Delivery n c w d l t
     next : (new : List DatagramView) → IsNext n c d → (delivered set w d).posts ≡ w.posts ++ new → (delivered set c d).posts ≡ c.posts ++ new
-        → StandsAt set loads (n + 1) (delivered set c d) (delivered set w d) (retries_of_getter d.side l) (retries_of_getter (other d.side) t) → Delivery n c w d l t
+        → WorldStandsAt set loads (n + 1) (delivered set c d) (delivered set w d) (retries_of_getter d.side l) (retries_of_getter (other d.side) t) → Delivery n c w d l t
 
-  given_is : (n : ℕ) (c w : World) (d : DatagramView) (l t : ℕ) → StandsAt set loads n c w l t → Contains w.posts d → Delivery n c w d l t
+  given_is : (n : ℕ) (c w : World) (d : DatagramView) (l t : ℕ) → WorldStandsAt set loads n c w l t → Contains w.posts d → Delivery n c w d l t
   given_is n c w d l t at has = elim (next_or_not (numbered c.posts (n + 1)) d) [
     | inl is_next ↦
         (let (answer, posts, goes_so) = laws.moves set loads n c d l t at.clean is_next in
@@ -68,9 +68,9 @@ module _ (set : Setting) (loads : List LoadView) (laws : CleanLaws) where
   module _ (n : ℕ) (c : World) (l t : ℕ) (turn : Side) (T : List DatagramView → Type 0)
       (keep : (d : DatagramView) (queue new : List DatagramView) → (IsNext n c d → ⊥) → ((posts : List DatagramView) → (delivered set (retried c l t posts) d).posts ≡ posts ++ new) → T (d ∷ queue) → T (queue ++ new))
       (on_next : (w : World) (d : DatagramView) (queue new : List DatagramView) → IsNext n c d → (delivered set w d).posts ≡ w.posts ++ new → (delivered set c d).posts ≡ c.posts ++ new
-      → StandsAt set loads (n + 1) (delivered set c d) (delivered set w d) (retries_of_getter d.side l) (retries_of_getter (other d.side) t) → AreAmong (delivered set w d).posts (queue ++ new) → T (d ∷ queue) → Ends (delivered set w d) (queue ++ new) turn)
-      (on_empty : (w : World) → StandsAt set loads n c w l t → T [] → Ends w [] turn) where
-    drains : (fuel : ℕ) (w : World) (queue : List DatagramView) → total queue ≤ fuel → StandsAt set loads n c w l t → AreAmong w.posts queue → T queue → Ends w queue turn
+      → WorldStandsAt set loads (n + 1) (delivered set c d) (delivered set w d) (retries_of_getter d.side l) (retries_of_getter (other d.side) t) → AreAmong (delivered set w d).posts (queue ++ new) → T (d ∷ queue) → Ends (delivered set w d) (queue ++ new) turn)
+      (on_empty : (w : World) → WorldStandsAt set loads n c w l t → T [] → Ends w [] turn) where
+    drains : (fuel : ℕ) (w : World) (queue : List DatagramView) → total queue ≤ fuel → WorldStandsAt set loads n c w l t → AreAmong w.posts queue → T queue → Ends w queue turn
     drains fuel w [] le at among h = on_empty w at h
     drains zero w (d ∷ queue) le at among h = absurd (too_heavy d queue le)
       where
@@ -92,7 +92,7 @@ module _ (set : Setting) (loads : List LoadView) (laws : CleanLaws) where
 
   -- every world with a budget that stands where a clean one stands after this many deliveries comes to its end
   abbrev AllEnd : ℕ → World → Type 0
-  AllEnd n c = (w : World) (queue : List DatagramView) (l t : ℕ) (turn : Side) → StandsAt set loads n c w l t → AreAmong w.posts queue → Budget n c queue l t → Ends w queue turn
+  AllEnd n c = (w : World) (queue : List DatagramView) (l t : ℕ) (turn : Side) → WorldStandsAt set loads n c w l t → AreAmong w.posts queue → Budget n c queue l t → Ends w queue turn
 
   -- and so, once the next one is delivered
   abbrev NextEnd : ℕ → World → Type 0
@@ -127,12 +127,12 @@ module _ (set : Setting) (loads : List LoadView) (laws : CleanLaws) where
   nobody_waits w sides.Loader e f = rw (e, f) refl
   nobody_waits w sides.Target e f = rw (f, e) refl
 
-  is_over : (n : ℕ) (c w : World) (l t : ℕ) (turn : Side) → StandsAt set loads n c w l t → numbered c.posts (n + 1) ≡ None → Ends w [] turn
+  is_over : (n : ℕ) (c w : World) (l t : ℕ) (turn : Side) → WorldStandsAt set loads n c w l t → numbered c.posts (n + 1) ≡ None → Ends w [] turn
   is_over n c w l t turn at none =
       let over = laws.done set loads n c at.clean none in
       record { last = w; finishes = done w turn (nobody_waits w turn (waits_same set loads n c w sides.Loader l t at ∙ over.loader) (waits_same set loads n c w sides.Target l t at ∙ over.target)); n = n; c = c; loader = l; target = t; stands = at; none = none; is_done = over }
 
-  flowing : (n : ℕ) (c : World) → NextEnd n c → (w : World) (queue : List DatagramView) (l t : ℕ) (turn : Side) → StandsAt set loads n c w l t → AreAmong w.posts queue → Queued (drop n c.posts) queue → Ends w queue turn
+  flowing : (n : ℕ) (c : World) → NextEnd n c → (w : World) (queue : List DatagramView) (l t : ℕ) (turn : Side) → WorldStandsAt set loads n c w l t → AreAmong w.posts queue → Queued (drop n c.posts) queue → Ends w queue turn
   flowing n c rec w queue l t turn at among h =
       drains n c l t turn (λ q. Queued (drop n c.posts) q)
       (λ d q new differs any k. keeps_queued (drop n c.posts) d q new (λ x rest e f. differs (subst (λ (y : DatagramView). IsNext n c y) (sym f) (first_is n c x rest e))) k)
@@ -211,10 +211,10 @@ module _ (set : Setting) (loads : List LoadView) (laws : CleanLaws) where
 
   module _ (n : ℕ) (c : World) (rec : NextEnd n c) (clean : Clean set loads n c) (x : DatagramView) (rest : List DatagramView) (ahead : drop n c.posts ≡ x ∷ rest) (short : length rest ≤ 1) (is_next : IsNext n c x) (help : Helps n c x) where
     goes_next : (l t : ℕ) (turn : Side) → l + length rest ≤ 5 → t + length rest ≤ 5 → (w : World) (d : DatagramView) (queue new : List DatagramView) → IsNext n c d → (delivered set c d).posts ≡ c.posts ++ new
-        → StandsAt set loads (n + 1) (delivered set c d) (delivered set w d) (retries_of_getter d.side l) (retries_of_getter (other d.side) t) → AreAmong (delivered set w d).posts (queue ++ new) → Ends (delivered set w d) (queue ++ new) turn
+        → WorldStandsAt set loads (n + 1) (delivered set c d) (delivered set w d) (retries_of_getter d.side l) (retries_of_getter (other d.side) t) → AreAmong (delivered set w d).posts (queue ++ new) → Ends (delivered set w d) (queue ++ new) turn
     goes_next l t turn ll lt w d queue new f g at among = rec d f (delivered set w d) (queue ++ new) _ _ turn at among (next_budget n c d x rest queue new l t clean ahead short ll lt f g)
 
-    coming : (w : World) (queue : List DatagramView) (l t : ℕ) (turn : Side) → l + length rest ≤ 5 → t + length rest ≤ 5 → StandsAt set loads n c w l t → AreAmong w.posts queue
+    coming : (w : World) (queue : List DatagramView) (l t : ℕ) (turn : Side) → l + length rest ≤ 5 → t + length rest ≤ 5 → WorldStandsAt set loads n c w l t → AreAmong w.posts queue
         → Queued (x ∷ []) queue ⊎ Queued (help.sent ∷ []) queue → Ends w queue turn
     coming w queue l t turn ll lt at among h =
         drains n c l t turn (λ q. Queued (x ∷ []) q ⊎ Queued (help.sent ∷ []) q)
@@ -231,7 +231,7 @@ module _ (set : Setting) (loads : List LoadView) (laws : CleanLaws) where
     ticked_few sides.Target l t (a, b, k) = (omega arith, omega arith, omega arith)
 
     -- the end that helps is ticked
-    helped : (w : World) (l t : ℕ) (turn : Side) → Few help.side l t → StandsAt set loads n c w l t → tick_in w turn ≡ Some help.side → Ends w [] turn
+    helped : (w : World) (l t : ℕ) (turn : Side) → Few help.side l t → WorldStandsAt set loads n c w l t → tick_in w turn ≡ Some help.side → Ends w [] turn
     helped w l t turn few at e =
         let (left, ll, lt) = ticked_few help.side l t few in
         let posts = tick_posts set loads n c w help.side l t help.sent at help.waiting left help.last in
@@ -243,7 +243,7 @@ module _ (set : Setting) (loads : List LoadView) (laws : CleanLaws) where
     is_turn side w e = rw e refl
 
     -- it is that end's turn
-    in_turn : (w : World) (queue : List DatagramView) (l t : ℕ) → Few help.side l t → StandsAt set loads n c w l t → AreAmong w.posts queue → Ends w queue help.side
+    in_turn : (w : World) (queue : List DatagramView) (l t : ℕ) → Few help.side l t → WorldStandsAt set loads n c w l t → AreAmong w.posts queue → Ends w queue help.side
     in_turn w queue l t few at among =
         drains n c l t help.side (λ q. Unit {0})
         (λ d q new differs any k. tt)
@@ -278,7 +278,7 @@ module _ (set : Setting) (loads : List LoadView) (laws : CleanLaws) where
     same_few sides.Target l t a b = (omega arith, omega arith, omega arith)
 
     -- the other end is ticked first
-    not_helped : (w : World) (l t : ℕ) (turn : Side) → l + length rest ≤ 4 → t + length rest ≤ 4 → StandsAt set loads n c w l t → tick_in w turn ≡ Some (other help.side) → waits w (other help.side) ≡ true → Ends w [] turn
+    not_helped : (w : World) (l t : ℕ) (turn : Side) → l + length rest ≤ 4 → t + length rest ≤ 4 → WorldStandsAt set loads n c w l t → tick_in w turn ≡ Some (other help.side) → waits w (other help.side) ≡ true → Ends w [] turn
     not_helped w l t turn ll lt at e waiting =
         let w_waits = sym (waits_same set loads n c w (other help.side) l t at) ∙ waiting in
         let (b, last, has) = laws.last set loads n c (other help.side) clean w_waits in
@@ -289,7 +289,7 @@ module _ (set : Setting) (loads : List LoadView) (laws : CleanLaws) where
         (in_turn (ticked set w (other help.side)) (b ∷ []) _ _ few (ticking_is_safe laws.last set loads n c w (other help.side) l t at w_waits left)
         (subst (λ (ds : List DatagramView). AreAmong ds (b ∷ [])) (sym posts) (among_right w.posts (b ∷ []) (b ∷ []) (among_itself (b ∷ []))))))
 
-    resting : (w : World) (queue : List DatagramView) (l t : ℕ) (turn : Side) → l + length rest ≤ 4 → t + length rest ≤ 4 → StandsAt set loads n c w l t → AreAmong w.posts queue → Ends w queue turn
+    resting : (w : World) (queue : List DatagramView) (l t : ℕ) (turn : Side) → l + length rest ≤ 4 → t + length rest ≤ 4 → WorldStandsAt set loads n c w l t → AreAmong w.posts queue → Ends w queue turn
     resting w queue l t turn ll lt at among =
         drains n c l t turn (λ q. Unit {0})
         (λ d q new differs any k. tt)
@@ -322,7 +322,7 @@ module _ (set : Setting) (loads : List LoadView) (laws : CleanLaws) where
     | inr none ↦ flows (subst (λ (ds : List DatagramView). Queued ds queue) (sym (drop_all n c.posts (none_drop c.posts n none))) tt)
   ]
 
-pub finish_ends : CleanLaws → FinishEnds
+pub finish_ends : CleanLaws → UploadFinishEnds
 finish_ends laws set loads n c w l t queue turn at among ll lt =
     let (k, out) = laws.come_out set loads n c at.clean in
     all_end set loads laws k n c out w queue l t turn at among (first_budget set loads laws n c queue l t at.clean (omega arith) (omega arith))

@@ -7,14 +7,14 @@ use Rattle.std.proofs.lemmas.Slice.Zip.{AllZip-long}
 use Rattle.exchange_trace.specs.declared.trace.Side.{Side}
 use Rattle.exchange_trace.specs.declared.trace.Side.TheVariants as sides
 use Rattle.exchange_trace.specs.Following.{Deliveries, Finishing, Nothing_left, Plan, Rest, Scene, Turn, begins, delivered_next, delivery, delivery_of_first, finishing, finishing_tick, from_lines, goes_on, least_delivery, loss, next_turn, once, or_else, ticked_side}
-use Rattle.exchange_trace.specs.FollowingLaws.{end_is_last, following_is_honest}
+use Rattle.exchange_trace.proofs.FollowingLemmas.{end_is_last, following_is_honest}
 use Rattle.exchange_trace.specs.Happenings.{Booted, DatagramView, Delivered, Ended, HappeningView, Info_started, Injected, Lost, Power_cut, Size_told, Ticked, Upload_started, other}
 use Rattle.exchange_trace.specs.Lines.{Blksize, Boot, Finish, Give, Info, Inject, Line, Lose, Next, Power, Tick, Upload as Starts}
 use Rattle.exchange_trace.specs.Posts.{NamesOnlyPosted, happenings_of, is_undelivered, numbered, posted_in, undelivered, undelivered_after, was_delivered, was_lost}
 use Rattle.exchange_trace.specs.Steps.{Step}
 use Rattle.session_rules.specs.declared.outcome.SessionKind.TheVariants.{Upload}
 use Rattle.session_rules.specs.Loader.{LoaderView}
-use Rattle.replay_rules.specs.BothEnds.{Setting, loader_at, target_at, waiting, Is_down, Is_up, TargetState}
+use Rattle.replay_rules.specs.BothEnds.{Setting, loader_at, target_at, waiting, Is_down, Is_up, TargetStanding}
 use Rattle.replay_rules.specs.Changes.{AllBroughtAreGood, AllCarryBytes, AllStayOrAreNew, ChangesAreNew, InstallsAreGood}
 use Rattle.replay_rules.specs.Due.{AllNoted, is_up}
 use Rattle.replay_rules.specs.FaultFree.{HasPorts, IsFaultFree, IsGranted, IsSmooth, NothingInjected, ports_for}
@@ -23,8 +23,8 @@ use Rattle.replay_rules.specs.MediaTraces.{InstallsAreOfMedia}
 use Rattle.replay_rules.specs.OtherEndTraces.{IsUninjected}
 use Rattle.replay_rules.specs.OwnSessionTraces.{AllInstalledInSession, CompletedInSession, NoneStarts}
 use Rattle.replay_rules.specs.Promises.{AllOfMedia, EndsOnce, HasCompleted, NoneGoesDown}
-use Rattle.replay_rules.specs.Runs.{Follows, IsQuiet, IsWithinMargin, plan_at, scene_at}
-use Rattle.transfer_completion.specs.BlockLaws.{eq_false}
+use Rattle.replay_rules.specs.Runs.{TraceFollows, IsQuiet, IsWithinMargin, plan_at, scene_at}
+use Rattle.transfer_completion.proofs.BlockLemmas.{eq_false}
 use Rattle.session_completion.proofs.Followed.{Names, named_at, named_within, At, LeftAt, NoEnds, due_of_before, finish_is, follows_before}
 use Rattle.accept_rules.specs.Permissions.{AcceptsPermitted}
 use Rattle.disk_layout.specs.Contents.{entries_of, entry_of}
@@ -33,8 +33,8 @@ use Rattle.load_base.specs.Config.{LoadView}
 use Rattle.load_protocol_files.specs.declared.lur.Wanted.{Wanted}
 use Rattle.load_protocol_files.specs.Lur.{WantedFits}
 use Rattle.transfer_end.specs.Readings.{next_port_of}
-use Rattle.session_rules.specs.InstallationLaws.{good_are_checked}
-use Rattle.session_rules.specs.KeptLaws.{installed_same}
+use Rattle.session_rules.proofs.InstallationLemmas.{good_are_checked}
+use Rattle.session_rules.proofs.KeptLemmas.{installed_same}
 use Rattle.session_rules.specs.KeptLoads.{kept_entries, types_of, with_kept}
 use Rattle.session_rules.specs.NewConfigs.{IsWanted}
 use Rattle.session_rules.specs.Target.{TargetView, outline_after}
@@ -148,7 +148,7 @@ still_undelivered count (Info_started hw pos) hs m named lt e = e
 still_undelivered count (Upload_started hw pos parts) hs m named lt e = e
 still_undelivered count Ended hs m named lt e = e
 
-names_only : (set : Setting) (script : List Line) (steps : List Step) → Follows set script steps → NamesOnlyPosted (length (posted_in steps)) (happenings_of steps)
+names_only : (set : Setting) (script : List Line) (steps : List Step) → TraceFollows set script steps → NamesOnlyPosted (length (posted_in steps)) (happenings_of steps)
 names_only set script [] follows m lt = refl
 names_only set script (s ∷ earlier) follows m lt =
     let named : Names_posted (length (posted_in earlier)) s.given = subst (λ (h : HappeningView). Names_posted (length (posted_in earlier)) h) (sym follows.0) (turn_named (scene_at set earlier) (plan_at set script earlier)) in
@@ -252,7 +252,7 @@ ends_before [] base none = none
 ends_before (s ∷ more) base none = ends_before more base none.1
 
 -- the end hasn't come where a line is left
-no_end : (set : Setting) (script idle : List Line) (more steps : List Step) → EndsOnce (more ++ steps) → Follows set script (more ++ steps) → (plan_at set script steps).lines ≡ idle ++ Finish ∷ [] → NoEnds steps
+no_end : (set : Setting) (script idle : List Line) (more steps : List Step) → EndsOnce (more ++ steps) → TraceFollows set script (more ++ steps) → (plan_at set script steps).lines ≡ idle ++ Finish ∷ [] → NoEnds steps
 no_end set script idle [] [] ends follows left = absurd ends
 no_end set script idle [] (s ∷ earlier) ends follows left =
     absurd (some_left idle (sym (ap (λ (p : Plan). p.lines) (end_is_last (scene_at set earlier) (plan_at set script earlier) (sym follows.0 ∙ ends.0))) ∙ left))
@@ -271,10 +271,10 @@ comes_to : (set : Setting) (steps last : List Step) (free : IsFaultFree set step
     → HasCompleted Upload w.loader.ended → w.target.active ≡ outline_of (standing_after (active_at set free.before) free.loads) → HasEntries set steps free last
 comes_to set steps last free before w left loader target completed active = by (target_at set last) refl
   where
-    by : (state : TargetState) → target_at set last ≡ state → HasEntries set steps free last
-    by (Is_down old interrupted) e = absurd (let wrong : Some w.target ≡ None = left.tied.target_is ∙ ap (λ (x : TargetState). kept_by x) e in cc)
+    by : (state : TargetStanding) → target_at set last ≡ state → HasEntries set steps free last
+    by (Is_down old interrupted) e = absurd (let wrong : Some w.target ≡ None = left.tied.target_is ∙ ap (λ (x : TargetStanding). kept_by x) e in cc)
     by (Is_up r) e =
-        let kept : Some w.target ≡ Some (target_view r) = left.tied.target_is ∙ ap (λ (x : TargetState). kept_by x) e in
+        let kept : Some w.target ≡ Some (target_view r) = left.tied.target_is ∙ ap (λ (x : TargetStanding). kept_by x) e in
         let view : w.target ≡ target_view r = cc in
         record {
           outcome = subst (λ (v : LoaderView). HasCompleted Upload v.ended) left.tied.loader_is completed;
@@ -354,7 +354,7 @@ module _ (set : Setting) (script : List Line) (steps more : List Step) (free : I
       let base = free.start ∷ free.before in
       let is : more ++ steps ≡ (more ++ free.since) ++ base = ap (λ (xs : List Step). more ++ xs) free.split ∙ sym (append_assoc more free.since base) in
       let knows : KnowsBrought set (more ++ steps) = record { good = good; media = media; stays = stays; injected = whole_is_uninjected.injected } in
-      let sum : (active_at set (more ++ steps)).sequence ≡ (active_at set free.before).sequence + 1 = ap (λ (x : TargetState). (active_in x).sequence) h.up ∙ ap (λ (o : Outline). o.sequence) h.active in
+      let sum : (active_at set (more ++ steps)).sequence ≡ (active_at set free.before).sequence + 1 = ap (λ (x : TargetStanding). (active_in x).sequence) h.up ∙ ap (λ (o : Outline). o.sequence) h.active in
       subst (λ (xs : List Step). IsInstalledOver set free.parts (active_at set free.before) (active_at set xs)) (sym is)
       (active_is_installed set (more ++ free.since) free.start free.before set.start.identity.hw set.start.identity.pos free.parts free.starts (none_start more free.since (length (posted_in free.before)) quietly free.smooth)
       (none_down_from (more ++ free.since) free.start (none_down more free.since (length (posted_in free.before)) left.stays_up free.smooth) free.stays_up) live_so_far
@@ -385,14 +385,14 @@ pub finish_completes : StepKeepsTie → InstallsAreOfMedia → CompletedInSessio
 finish_completes keeps media sessions changes goods complete set script steps more free standing permits lengths named margin left recovered =
     let is = whole_is_uninjected set script steps more free left in
     let h = has_entries set script steps more free left keeps complete permits named margin in
-    let active : active_at set (more ++ steps) ≡ h.target.active = ap (λ (x : TargetState). active_in x) h.up in
-    let found : standing ≡ h.target.active = recovered ∙ ap (λ (x : TargetState). active_by x (Some standing)) h.up in
+    let active : active_at set (more ++ steps) ≡ h.target.active = ap (λ (x : TargetStanding). active_in x) h.up in
+    let found : standing ≡ h.target.active = recovered ∙ ap (λ (x : TargetStanding). active_by x (Some standing)) h.up in
     let installed : IsInstalledOver set free.parts (active_at set free.before) h.target.active = subst (λ (x : StandingView). IsInstalledOver set free.parts (active_at set free.before) x) active
     (active_installed set script steps more free left h (sessions set (more ++ steps) permits named.entries is) (goods set (more ++ steps) permits left.carries) (media set (more ++ steps) permits lengths is) (changes set (more ++ steps) permits left.carries)) in
     let new = new_are_these set steps free h.target.active named.entries h.active installed in
     record {
       outcome = h.outcome;
       quiet = h.quiet;
-      up = ap (λ (x : TargetState). is_up x) h.up;
+      up = ap (λ (x : TargetStanding). is_up x) h.up;
       loads = ap (λ (x : StandingView). x.loads) (found ∙ installed.is) ∙ ap (λ (ls : List LoadView). with_kept ls (active_at set free.before).loads) new;
     }

@@ -12,7 +12,7 @@ use Rattle.exchange_trace.specs.Steps.{Step}
 use Rattle.replay_rules.specs.BothEnds.{Setting}
 use Rattle.replay_rules.specs.Due.{LeavesPower}
 use Rattle.replay_rules.specs.FaultFree.{IsNoInjection, IsNoStart}
-use Rattle.replay_rules.specs.Runs.{Follows, plan_at, scene_at}
+use Rattle.replay_rules.specs.Runs.{TraceFollows, plan_at, scene_at}
 use Rattle.session_completion.specs.FinishedRuns.{AllGiveNothing, FinishIsLeft, FinishLeavesPower}
 
 -- nothing is injected, no session is started, and power is neither lost nor switched
@@ -81,7 +81,7 @@ module _ (set : Setting) (script : List Line) (steps : List Step) (left : Finish
   turn_is_last (s ∷ more) =
       let plan = plan_at set script (s ∷ (more ++ steps)) in last_turn (scene_at set (s ∷ (more ++ steps))) plan.rest plan.lines (turn_is_last more).1
 
-  pub all_quietly : (more : List Step) → Follows set script (more ++ steps) → AllByRecursion (λ (s : Step). IsQuietly s.given) more
+  pub all_quietly : (more : List Step) → TraceFollows set script (more ++ steps) → AllByRecursion (λ (s : Step). IsQuietly s.given) more
   all_quietly [] follows = tt
   all_quietly (s ∷ more) follows = (subst (λ (h : HappeningView). IsQuietly h) (sym follows.0) (turn_is_last more).0, all_quietly more follows.1)
 

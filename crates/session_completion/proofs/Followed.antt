@@ -7,11 +7,11 @@ use Rattle.disk_layout.specs.Holds.{StandingView}
 use Rattle.exchange_trace.specs.declared.trace.Side.{Side}
 use Rattle.exchange_trace.specs.declared.trace.Side.TheVariants as sides
 use Rattle.exchange_trace.specs.Happenings.{DatagramView, Delivered, Ended, HappeningView, Ticked, other}
-use Rattle.exchange_trace.specs.PostLaws.{undelivered_grows, undelivered_shrinks}
+use Rattle.exchange_trace.proofs.PostLemmas.{undelivered_grows, undelivered_shrinks}
 use Rattle.exchange_trace.specs.Posts.{NamesOnlyPosted, happenings_of, is_undelivered, numbered, posted_in, undelivered, undelivered_after}
 use Rattle.exchange_trace.specs.Steps.{Step}
 use Rattle.session_completion.proofs.Queues.{numbered_is}
-use Rattle.transfer_completion.specs.BlockLaws.{eq_false}
+use Rattle.transfer_completion.proofs.BlockLemmas.{eq_false}
 use Rattle.exchange_trace.specs.Following.{Finishing, Nothing_left, Turn, delivery_of_first, finishing, goes_on, least_delivery, next_turn, or_else, turn, finishing_tick, ticked_side}
 use Rattle.exchange_trace.specs.Lines.{Line}
 use Rattle.exchange_trace.specs.Logs.{Gets, Ticks, event_for, gets}
@@ -19,14 +19,14 @@ use Rattle.replay_rules.specs.BothEnds.{Setting, loader_at, loader_waits, target
 use Rattle.replay_rules.specs.Histories.{setting_from}
 use Rattle.replay_rules.specs.Due.{AllDue}
 use Rattle.replay_rules.specs.Promises.{IsNoEnd, EndsOnce, NoneGoesDown}
-use Rattle.replay_rules.specs.Runs.{plan_at, scene_at, Follows}
+use Rattle.replay_rules.specs.Runs.{plan_at, scene_at, TraceFollows}
 use Rattle.replay_rules.specs.Ties.{StepKeepsTie}
 use Rattle.session_completion.specs.FaultFreeRuns.{IsWorldOf}
 use Rattle.session_completion.specs.Worlds.{World, delivered, delivered_to, ticked}
 use Rattle.session_completion.proofs.FaultFreeRuns.{loader_alone, nothing_comes, step_tied, stepped, live_so, target_so}
 use Rattle.session_completion.proofs.Finish.{same_left}
 use Rattle.session_rules.specs.Loader.{LoaderView}
-use Rattle.session_completion.specs.Finish.{Finishes, delivers, done, tick_in, ticks}
+use Rattle.session_completion.specs.Finish.{WorldFinishes, delivers, done, tick_in, ticks}
 
 -- ---- numbers of datagrams
 
@@ -329,7 +329,7 @@ next_of : (more base : List Step) → EndsOnce (more ++ base) → NoEnds base �
 next_of [] base ends none = absurd (no_end_yet base ends none)
 next_of (x ∷ xs) base ends none = pushed x xs
 
-pub follows_before : (set : Setting) (script : List Line) (more base : List Step) → Follows set script (more ++ base) → Follows set script base
+pub follows_before : (set : Setting) (script : List Line) (more base : List Step) → TraceFollows set script (more ++ base) → TraceFollows set script base
 follows_before set script [] base follows = follows
 follows_before set script (s ∷ more) base follows = follows_before set script more base follows.1
 
@@ -352,7 +352,7 @@ last_one (r ∷ rest) s base ends is = absurd (subst (λ (h : HappeningView). Is
 pub record Following (set : Setting) (script : List Line) (more base : List Step) : Type 0 where
   pub ends : EndsOnce (more ++ base)
   pub due : AllDue set (more ++ base)
-  pub follows : Follows set script (more ++ base)
+  pub follows : TraceFollows set script (more ++ base)
   pub up : NoneGoesDown more
 
 record Peeled (set : Setting) (script : List Line) (more base : List Step) : Type 0 where
@@ -371,11 +371,11 @@ peeled set script more base f none =
       rest = p.rest;
       s = p.s;
       whole = whole;
-      later = record { ends = subst (λ (xs : List Step). EndsOnce xs) whole f.ends; due = subst (λ (xs : List Step). AllDue set xs) whole f.due; follows = subst (λ (xs : List Step). Follows set script xs) whole f.follows; up = up.0 };
+      later = record { ends = subst (λ (xs : List Step). EndsOnce xs) whole f.ends; due = subst (λ (xs : List Step). AllDue set xs) whole f.due; follows = subst (λ (xs : List Step). TraceFollows set script xs) whole f.follows; up = up.0 };
       notes = up.1;
     }
 
-pub finish_is : StepKeepsTie → (set : Setting) (active : StandingView) (script : List Line) (before : List DatagramView) (w last : World) (queue : List DatagramView) (first : Side) → Finishes (setting_from set active) w queue first last → (more base : List Step)
+pub finish_is : StepKeepsTie → (set : Setting) (active : StandingView) (script : List Line) (before : List DatagramView) (w last : World) (queue : List DatagramView) (first : Side) → WorldFinishes (setting_from set active) w queue first last → (more base : List Step)
     → At set script before base w queue first → NoEnds base → Following set script more base → LeftAt set before (more ++ base) last
 finish_is keeps set active script before w last queue first (done v f whose) more base at none following =
     let p = peeled set script more base following none in

@@ -21,7 +21,7 @@ use Rattle.session_rules.specs.Buffers.{buffered_more}
 use Rattle.session_rules.specs.FileNames.{file_name}
 use Rattle.session_rules.specs.Loader as Loader
 use Rattle.session_rules.specs.Loader.{Advances, Begins, Begins_over, Continues, EndedSession, Ends, LoaderChange, LoaderDecision, LoaderSession, LoaderView, Start, loader_after, loader_changed, loader_decision}
-use Rattle.session_rules.specs.LoaderRows.{Comes_to, Goes_on, Turn, file_turn, kind_taken, row_after, serves_files}
+use Rattle.session_rules.specs.LoaderRows.{Comes_to, Goes_on, RowTurn, file_turn, kind_taken, row_after, serves_files}
 use Rattle.session_rules.specs.MediaFiles.{Media, wanted_of}
 use Rattle.session_rules.specs.Target as Target
 use Rattle.session_rules.specs.Target.{TargetChange, TargetDecision, TargetSession, TargetView, target_after, target_changed, target_decision}
@@ -99,7 +99,7 @@ module _ (v : EndView) where
   next_stops heard more None = tt
   next_stops heard more (Some role) = stopped_if (has_port v) _ _ tt (stops_last sides.Loader v heard)
 
-  turn_stops : (s : LoaderSession) (heard : List Move) (more : List ℕ) (turn : Turn) → IsStopped (Loader.turn_decision v s heard more turn)
+  turn_stops : (s : LoaderSession) (heard : List Move) (more : List ℕ) (turn : RowTurn) → IsStopped (Loader.turn_decision v s heard more turn)
   turn_stops s heard more Goes_on = next_stops heard more (Loader.row_request v.asks_size s.start (row_after s.row))
   turn_stops s heard more (Comes_to outcome) = stops_last sides.Loader v heard
 

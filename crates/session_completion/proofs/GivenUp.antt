@@ -20,7 +20,7 @@ use Rattle.session_rules.specs.Loader.{Advances, Begins, Begins_over, Continues,
 use Rattle.session_rules.specs.LoaderLog.{LoaderReading, SessionLog, loader_extended, loader_reading, loader_reading_changed, loader_view, session_view}
 use Rattle.session_rules.specs.MediaFiles.{Media}
 use Rattle.session_rules.specs.TargetLog.{TargetReading, TargetSessionLog, target_extended}
-use Rattle.replay_rules.specs.BothEnds.{Is_down, Is_up, Setting, TargetState, loader_at, noted, reached, target_at, waits_in}
+use Rattle.replay_rules.specs.BothEnds.{Is_down, Is_up, Setting, TargetStanding, loader_at, noted, reached, target_at, waits_in}
 use Rattle.replay_rules.specs.FaultFree.{AllEndWell, EndsInstalled, EndsWell, IsSmooth, NewAreCompleted}
 use Rattle.replay_rules.specs.Runs.{retries_in}
 use Rattle.session_completion.specs.FaultFreeRuns.{FaultFreeGivesNoneUp, GivesNoneUp, NoneGivesUp, retries_after}
@@ -114,7 +114,7 @@ target_gives_up set r live spent well = by r.live refl live
         = subst (λ (o : Option TargetSessionLog). EndsInstalled r (Some Ticks) (Some s) o) ends (subst (λ (o : Option TargetSessionLog). EndsInstalled r (Some Ticks) o (target_extended set.accepts r Ticks).live) e well) in
         both.1
 
-state_gives_up : (set : Setting) (state : TargetState) → waits_in state ≡ true → nat_lt (retries_in state) 5 ≡ false → EndsWell state (Some Ticks) (reached set (Some Ticks) state) → ⊥
+state_gives_up : (set : Setting) (state : TargetStanding) → waits_in state ≡ true → nat_lt (retries_in state) 5 ≡ false → EndsWell state (Some Ticks) (reached set (Some Ticks) state) → ⊥
 state_gives_up set (Is_up r) live spent well = target_gives_up set r live spent well
 state_gives_up set (Is_down active interrupted) live spent well = well
 

@@ -13,10 +13,10 @@ use Rattle.session_rules.specs.declared.outcome.SessionKind.TheVariants.{Upload}
 use Rattle.session_rules.specs.MediaFiles.{entry_with, wanted_of}
 use Rattle.replay_rules.specs.BothEnds.{Setting}
 use Rattle.replay_rules.specs.Promises.{HasCompleted}
-use Rattle.session_completion.specs.Clean.{Clean, IsIdle, StandsAt}
+use Rattle.session_completion.specs.Clean.{Clean, AreEndsIdle, WorldStandsAt}
 use Rattle.session_completion.specs.Clean.{starts}
-use Rattle.session_completion.specs.Finish.{ComesToEnd, FinishEnds}
-use Rattle.session_completion.specs.GoodRequests.{GoodLoadsLeadOn, RequestsAreRead}
+use Rattle.session_completion.specs.Finish.{ComesToEnd, UploadFinishEnds}
+use Rattle.session_completion.specs.GoodRequests.{GoodLoadsLeadOn, UploadRequestsAreRead}
 use Rattle.session_completion.specs.GoodUploads.{GoodUploadsComplete, IsFinished, IsGoodStart, Leads, begins, delivers, retries_at, started, tells, ticks}
 use Rattle.session_completion.specs.Laws.{retries_of_getter}
 use Rattle.session_completion.specs.Safety.{DeliveringIsSafe, TellingIsSafe, TickingIsSafe, was_next, was_old, retries_of, ticked_at}
@@ -66,16 +66,16 @@ names_of (w ∷ wanted) h = (h.0.header, names_of wanted h.1)
 -- ---- where a run stands
 
 abbrev Stands : Setting → List LoadView → World → Type 0
-Stands set loads w = (n : ℕ) × (c : World) × StandsAt set loads n c w (retries_at w sides.Loader) (retries_at w sides.Target)
+Stands set loads w = (n : ℕ) × (c : World) × WorldStandsAt set loads n c w (retries_at w sides.Loader) (retries_at w sides.Target)
 
 -- the retries are those that the world has
-with_its_own : (set : Setting) (loads : List LoadView) (n : ℕ) (c w : World) (loader target : ℕ) → StandsAt set loads n c w loader target → Stands set loads w
+with_its_own : (set : Setting) (loads : List LoadView) (n : ℕ) (c w : World) (loader target : ℕ) → WorldStandsAt set loads n c w loader target → Stands set loads w
 with_its_own set loads n c w loader target at =
     let l : loader ≡ retries_at w sides.Loader = sym (ap (λ (x : World). x.loader.end.retries) at.same) in
     let t : target ≡ retries_at w sides.Target = sym (ap (λ (x : World). x.target.end.retries) at.same) in
-    (n, c, subst (λ (k : ℕ). StandsAt set loads n c w k (retries_at w sides.Target)) l (subst (λ (k : ℕ). StandsAt set loads n c w loader k) t at))
+    (n, c, subst (λ (k : ℕ). WorldStandsAt set loads n c w k (retries_at w sides.Target)) l (subst (λ (k : ℕ). WorldStandsAt set loads n c w loader k) t at))
 
-module _ (set : Setting) (loads : List LoadView) (lead : GoodLoadsLeadOn) (read : RequestsAreRead) (safe : DeliveringIsSafe) (tick_safe : TickingIsSafe) (tell_safe : TellingIsSafe) where
+module _ (set : Setting) (loads : List LoadView) (lead : GoodLoadsLeadOn) (read : UploadRequestsAreRead) (safe : DeliveringIsSafe) (tick_safe : TickingIsSafe) (tell_safe : TellingIsSafe) where
   stands_at_start : (parts : List (List ℕ)) (wanted : List Wanted) (w : World) → IsGoodStart set parts wanted loads w → Stands set loads (started set parts w)
   stands_at_start parts wanted w good =
       let (fits, count) = wanted_are (λ (x : Wanted). WantedFits x) set.media.loads parts wanted good.entries good.on_media in
@@ -84,7 +84,7 @@ module _ (set : Setting) (loads : List LoadView) (lead : GoodLoadsLeadOn) (read 
       let few : length wanted ≤ 32 = rw count good.few in
       let some_loads : 1 ≤ length loads = rw (sym as_many) some in
       let (more, ports, course) = lead set wanted loads good.served some_loads good.own_files (read wanted fits some few) (record { named = names_of wanted fits; bytes = good.bytes }) in
-      let clean : Clean set loads 0 (started set parts w) = starts w parts wanted more (subst (λ (k : ℕ). IsIdle set k w) (sym ports) good.idle) course good.few good.on_media in
+      let clean : Clean set loads 0 (started set parts w) = starts w parts wanted more (subst (λ (k : ℕ). AreEndsIdle set k w) (sym ports) good.idle) course good.few good.on_media in
       (0, started set parts w, record { clean = clean; same = refl; among = among_itself (started set parts w).posts })
 
   leads_on : (from w : World) → Stands set loads from → Leads set from w → Stands set loads w
@@ -121,7 +121,7 @@ finished_at set loads w queue first it = record {
   active = ap (λ (x : World). x.target.active) it.stands.same ∙ it.is_done.active;
 }
 
-pub good_uploads_complete : GoodLoadsLeadOn → RequestsAreRead → DeliveringIsSafe → TickingIsSafe → TellingIsSafe → FinishEnds → GoodUploadsComplete
+pub good_uploads_complete : GoodLoadsLeadOn → UploadRequestsAreRead → DeliveringIsSafe → TickingIsSafe → TellingIsSafe → UploadFinishEnds → GoodUploadsComplete
 good_uploads_complete lead read safe tick_safe tell_safe ends set parts wanted loads before w queue first good leads loader target among =
     let (n, c, is) = leads_on set loads lead read safe tick_safe tell_safe (started set parts before) w (stands_at_start set loads lead read safe tick_safe tell_safe parts wanted before good) leads in
     finished_at set loads w queue first (ends set loads n c w (retries_at w sides.Loader) (retries_at w sides.Target) queue first is among loader target)

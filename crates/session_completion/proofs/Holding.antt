@@ -10,8 +10,8 @@ use Rattle.transfer_end.specs.Moves.{Hears, datagram}
 use Rattle.transfer_end.specs.Packets.{answer_of, belongs}
 use Rattle.transfer_end.specs.Transfers.{LinkEnd, Reads, Receives, Role, Sends, Writes, begin_of, end_answer, end_moved, end_packet}
 use Rattle.transfer_end.specs.Views.{EndView, TransferView}
-use Rattle.transfer_completion.specs.BlockLaws.{eq_true}
-use Rattle.transfer_completion.specs.Positions.{HasAsked, IsIn, IsRunning, Position, Rests, StandsIn, live_at}
+use Rattle.transfer_completion.proofs.BlockLemmas.{eq_true}
+use Rattle.transfer_completion.specs.Positions.{HasAsked, IsIn, IsEndRunning, Position, Rests, StandsIn, live_at}
 use Rattle.transfer_completion.specs.Replies.{acknowledges}
 use Rattle.transfer_completion.specs.Steps.{IsGoing}
 use Rattle.session_completion.specs.Stages.{HoldsReceiver, HoldsSender}
@@ -61,7 +61,7 @@ module _ (side : Side) (posts : List DatagramView) (own peer i : ℕ) where
 
   -- and it does so
 
-  pub goes : (position : Position) (end : LinkEnd) (v : EndView) (p : PacketView) → Holds position end → IsGoing (end_answer end p) → IsRunning (end_moved end (end_answer end p)) → StandsIn side posts own peer i position v
+  pub goes : (position : Position) (end : LinkEnd) (v : EndView) (p : PacketView) → Holds position end → IsGoing (end_answer end p) → IsEndRunning (end_moved end (end_answer end p)) → StandsIn side posts own peer i position v
       → Moved side v (Hears (peer + i) p ∷ []) posts own peer i (IsIn (end_moved end (end_answer end p))) (datagram side (own + i) (peer + i) (end_packet (end_moved end (end_answer end p))) ∷ [])
   goes Rests end' v p h going runs stands = elim h [ ]
   goes (IsIn end) end' v p (knows e) going runs stands = hears_on side posts own peer i v e p going runs stands

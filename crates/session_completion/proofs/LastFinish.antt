@@ -3,7 +3,7 @@ use Rattle.std.proofs.Common.{◌≡◌, ◌⊎◌, ℕ, zero, suc, List, [], �
 use Rattle.exchange_trace.specs.declared.trace.Side.{Side}
 use Rattle.exchange_trace.specs.declared.trace.Side.TheVariants as sides
 use Rattle.exchange_trace.specs.Following.{Deliveries, Finishing, Nothing_left, Plan, Rest, Scene, Turn, begins, delivered_next, delivery, finishing, finishing_tick, from_lines, goes_on, least_delivery, loss, next_turn, once, or_else, ticked_side}
-use Rattle.exchange_trace.specs.FollowingLaws.{end_is_last}
+use Rattle.exchange_trace.proofs.FollowingLemmas.{end_is_last}
 use Rattle.exchange_trace.specs.Happenings.{HappeningView}
 use Rattle.exchange_trace.specs.Lines.{Blksize, Boot, Finish, Give, Info, Inject, Line, Lose, Next, Power, Tick, Upload}
 use Rattle.exchange_trace.specs.Steps.{Step}

@@ -12,8 +12,8 @@ use Rattle.tftp_link.specs.Sender.{Sender, sender_answer}
 use Rattle.transfer_end.specs.Moves.{Move, Hears, Asks, Serves, Stops, all_posts, datagram, heard_post, posts_of, request, view_after, views_after}
 use Rattle.transfer_end.specs.Transfers.{LinkEnd, Reads, Receives, Role, Sends, begin_of, end_answer, end_moved, end_packet}
 use Rattle.transfer_end.specs.Views.{EndView, TransferView}
-use Rattle.transfer_completion.specs.MoveLaws.{asks, binds, binds_with_the_last, by_live, first_is_sent, goes_on, last_is_acknowledged, serves, takes_the_last}
-use Rattle.transfer_completion.specs.Positions.{HasAsked, IsIn, IsRunning, Position, Rests, StandsIn}
+use Rattle.transfer_completion.proofs.MoveLemmas.{asks, binds, binds_with_the_last, by_live, first_is_sent, goes_on, last_is_acknowledged, serves, takes_the_last}
+use Rattle.transfer_completion.specs.Positions.{HasAsked, IsIn, IsEndRunning, Position, Rests, StandsIn}
 use Rattle.transfer_completion.specs.Replies.{acknowledges}
 use Rattle.transfer_completion.specs.Retries.{retries_after}
 use Rattle.transfer_completion.specs.Steps.{IsGoing, placed}
@@ -70,7 +70,7 @@ module _ (side : Side) (posts : List DatagramView) (own peer i : ℕ) where
   asked_last : (role : Role) (v : EndView) (new : List DatagramView) → StandsIn side (posts ++ new) own peer i (HasAsked role) v → IsPosted (posts ++ new) v.last
   asked_last role v new stands = (request side (own + i) role, stands.last.0, stands.last.1)
 
-  pub hears_on : (v : EndView) (end : LinkEnd) (p : PacketView) → IsGoing (end_answer end p) → IsRunning (end_moved end (end_answer end p)) → StandsIn side posts own peer i (IsIn end) v
+  pub hears_on : (v : EndView) (end : LinkEnd) (p : PacketView) → IsGoing (end_answer end p) → IsEndRunning (end_moved end (end_answer end p)) → StandsIn side posts own peer i (IsIn end) v
       → By (Hears (peer + i) p ∷ []) (IsIn (end_moved end (end_answer end p))) (sent (end_moved end (end_answer end p))) v
   hears_on v end p going runs stands =
       let w = placed v (IsIn end) own peer i in
@@ -83,7 +83,7 @@ module _ (side : Side) (posts : List DatagramView) (own peer i : ℕ) where
         last = is_last (end_moved end (end_answer end p)) (view_after side w (Hears (peer + i) p)) (sent (end_moved end (end_answer end p))) now;
       })
 
-  pub hears_first : (v : EndView) (role : Role) (p : PacketView) → IsGoing (end_answer (begin_of role) p) → IsRunning (end_moved (begin_of role) (end_answer (begin_of role) p)) → StandsIn side posts own peer i (HasAsked role) v
+  pub hears_first : (v : EndView) (role : Role) (p : PacketView) → IsGoing (end_answer (begin_of role) p) → IsEndRunning (end_moved (begin_of role) (end_answer (begin_of role) p)) → StandsIn side posts own peer i (HasAsked role) v
       → By (Hears (peer + i) p ∷ []) (IsIn (end_moved (begin_of role) (end_answer (begin_of role) p))) (sent (end_moved (begin_of role) (end_answer (begin_of role) p))) v
   hears_first v role p going runs stands =
       let w = placed v (HasAsked role) own peer i in
@@ -98,7 +98,7 @@ module _ (side : Side) (posts : List DatagramView) (own peer i : ℕ) where
 
   -- ---- the request that is taken
 
-  pub serves_now : (v : EndView) (role : Role) → IsRunning (begin_of role) → StandsIn side posts own peer i Rests v → By (Serves (peer + i) role ∷ []) (IsIn (begin_of role)) (sent (begin_of role)) v
+  pub serves_now : (v : EndView) (role : Role) → IsEndRunning (begin_of role) → StandsIn side posts own peer i Rests v → By (Serves (peer + i) role ∷ []) (IsIn (begin_of role)) (sent (begin_of role)) v
   serves_now v role runs stands =
       let post : posts_of side v (Serves (peer + i) role) ≡ sent (begin_of role) = rw (stands.port, first_is_sent role) refl in
       let now = by_posts (IsIn (begin_of role)) (view_after side v (Serves (peer + i) role)) _ _ post (serves side posts own peer i v role stands runs) in
@@ -113,7 +113,7 @@ module _ (side : Side) (posts : List DatagramView) (own peer i : ℕ) where
   stopped v stands = record { port = stands.port; mark = stands.mark; live = refl; last = tt; underway = tt; kept = stands.kept }
 
   -- the target's session begins anew
-  pub begins_to_serve : (v : EndView) (role : Role) → IsRunning (begin_of role) → StandsIn side posts own peer i Rests v → By (Stops ∷ Serves (peer + i) role ∷ []) (IsIn (begin_of role)) (sent (begin_of role)) v
+  pub begins_to_serve : (v : EndView) (role : Role) → IsEndRunning (begin_of role) → StandsIn side posts own peer i Rests v → By (Stops ∷ Serves (peer + i) role ∷ []) (IsIn (begin_of role)) (sent (begin_of role)) v
   begins_to_serve v role runs stands = let m = serves_now (view_after side v Stops) role runs (stopped v stands) in record { stands = m.stands; posted = m.posted; resets = m.resets; last = m.last }
 
 -- ---- the end of a transfer

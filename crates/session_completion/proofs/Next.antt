@@ -20,25 +20,25 @@ use Rattle.transfer_end.specs.Transfers.{LinkEnd, Reads, Receives, Role, Sends, 
 use Rattle.transfer_end.specs.Views.{EndView}
 use Rattle.session_rules.specs.declared.outcome.FileKind.TheVariants.{Lui, Lur, Lus}
 use Rattle.session_rules.specs.Buffers.{buffered, buffered_more}
-use Rattle.session_rules.specs.BufferLaws.{SumsJoin, buffered_on}
+use Rattle.session_rules.proofs.BufferLemmas.{SumsJoin, buffered_on}
 use Rattle.session_rules.specs.FileNames.{file_name}
 use Rattle.session_rules.specs.Loader as loader
 use Rattle.session_rules.specs.Loader.{LoaderSession, LoaderView, loader_after}
 use Rattle.session_rules.specs.LoaderRows.{kind_taken, serves_files, Goes_on, file_turn, row_after}
-use Rattle.session_rules.specs.KeptLaws.{installed_same}
+use Rattle.session_rules.proofs.KeptLemmas.{installed_same}
 use Rattle.session_rules.specs.Target as target
 use Rattle.session_rules.specs.Target.{TargetSession, TargetView, active_in, outline_after, own_name, target_after}
 use Rattle.session_rules.specs.TargetRows.{RowView, Gives_lci, Writes_lcs, Writes_lcl, Gives_lui, Gives_denial, Writes_ready, Awaits_lur, Reads_file, Writes_progress, Writes_stop, Writes_completion, Over}
 use Rattle.replay_rules.specs.BothEnds.{Setting}
-use Rattle.transfer_completion.specs.BlockLaws.{eq_false, lt_true, take_none, eq_true}
-use Rattle.transfer_completion.specs.Laws.{GoesOnAtReceiver, GoesOnAtSender, IsWhole, MovesReceiver, MovesSender}
-use Rattle.transfer_completion.specs.Positions.{HasAsked, IsBehind, IsIn, IsRunning, Position, Rests, StandsIn}
+use Rattle.transfer_completion.proofs.BlockLemmas.{eq_false, lt_true, take_none, eq_true}
+use Rattle.transfer_completion.specs.Laws.{GoesOnAtReceiver, GoesOnAtSender, TookLastBlock, MovesReceiver, MovesSender}
+use Rattle.transfer_completion.specs.Positions.{HasAsked, IsBehind, IsIn, IsEndRunning, Position, Rests, StandsIn}
 use Rattle.transfer_completion.specs.Steps.{IsGoing}
-use Rattle.transfer_completion.specs.TalkLaws.{reading_begins, requests_are_read, taken_is_small, writing_begins, finished_is_whole}
+use Rattle.transfer_completion.proofs.TalkLemmas.{reading_begins, requests_are_read, taken_is_small, writing_begins, finished_is_whole}
 use Rattle.transfer_completion.specs.Talks.{Talk, left_down, left_up, taken_of}
 use Rattle.session_completion.specs.Course.{Course, IsFine, IsInUpload, IsLater, IsStep, asker, cost, cost_behind, file_in, loader_row, next_row, own_file_name, role_in, sender_in, IsAfterRequest, arrives_in}
 use Rattle.session_completion.specs.Requests.{is_own_file}
-use Rattle.session_completion.specs.Stages.{Came, HasRoom, HoldsReceiver, HoldsSender, InRow, KeepsWhole, LoaderIsDone, Meets, Opposite, TargetBefore, Where, as_request, asked, closing, down, early, end_at, ending, here, loader_session, may_ask, over, target_session, to_loader, to_target, up}
+use Rattle.session_completion.specs.Stages.{CameInCourse, HasRoom, HoldsReceiver, HoldsSender, InRow, KeepsWhole, LoaderIsDone, Meets, Opposite, TargetBefore, Where, as_request, asked, closing, down, early, end_at, ending, here, loader_session, may_ask, over, target_session, to_loader, to_target, up}
 use Rattle.session_completion.specs.Worlds.{World, delivered_to, waits}
 use Rattle.session_completion.proofs.Holding.{Holds, answers_so, goes, holds_receiver, holds_sender, is_mine, next_port, takes_last}
 use Rattle.session_completion.proofs.LoaderSteps as at_loader
@@ -51,9 +51,9 @@ use Rattle.session_completion.proofs.Rows.{active_identity, active_stays, loader
 use Rattle.tftp_link.specs.declared.phase.Phase.{Phase}
 use Rattle.tftp_link.specs.declared.phase.Phase.TheVariants.{Running, Waiting}
 use Rattle.transfer_completion.specs.Replies.{acknowledges}
-use Rattle.transfer_completion.specs.StaleLaws.{ack_acknowledges}
+use Rattle.transfer_completion.proofs.StaleLemmas.{ack_acknowledges}
 use Rattle.std.proofs.Math.Seq.{take-nil}
-use Rattle.transfer_end.specs.SentPacketLaws.{written_is_read}
+use Rattle.transfer_end.proofs.SentPacketLemmas.{written_is_read}
 
 fresh_for : (side : Side) (posts : List DatagramView) (own peer i : ℕ) (v : EndView) → StandsIn side posts own peer i Rests v → is_fresh v (peer + i) ≡ true
 fresh_for side posts own peer i v stands = lt_true v.mark (peer + i) stands.mark.none
@@ -122,7 +122,7 @@ module _ (set : Setting) (wanted : List Wanted) (loads : List LoadView) (joins :
   fine_of (suc more) row h = h.0.fine
 
   -- and one of an upload
-  goes_in : (row : RowView) (file : List ℕ) → Rattle.session_completion.specs.Course.LoaderGoesOn row file → IsInUpload row
+  goes_in : (row : RowView) (file : List ℕ) → Rattle.session_completion.specs.Course.LoaderReadsOn row file → IsInUpload row
   goes_in Gives_lui file h = tt
   goes_in Writes_ready file h = tt
   goes_in Awaits_lur file h = tt
@@ -176,7 +176,7 @@ module _ (set : Setting) (wanted : List Wanted) (loads : List LoadView) (joins :
       let d = request poster (peer + i) (Reads name options) in
       let e = Gets (peer + i) 59 (packet_bytes (Rrq name options)) in
       let talk = reading_begins name file told fine.fits in
-      let came : Came (may_ask set getter) own peer i (IsIn (Sends (sender_serving file options))) d = as_request i (Rrq name options) (requests_are_read name file told named fine.fits).0 may (omega arith) refl refl in
+      let came : CameInCourse (may_ask set getter) own peer i (IsIn (Sends (sender_serving file options))) d = as_request i (Rrq name options) (requests_are_read name file told named fine.fits).0 may (omega arith) refl refl in
       let next = meets_next set n c getter poster own peer i i i Rests (HasAsked (Reads name options)) (IsIn (Sends (sender_serving file options))) before [] (datagram getter (own + i) (peer + i) (sender_packet (sender_serving file options)) ∷ []) (peer + i) 59 (packet_bytes (Rrq name options))
       m (after_serving i (Sends (sender_serving file options))) came r id in
       let same = cost_is more row in
@@ -211,7 +211,7 @@ module _ (set : Setting) (wanted : List Wanted) (loads : List LoadView) (joins :
       let e = Gets (peer + i) 59 (packet_bytes (Wrq name s.options)) in
       let talk : Talk file s (receiver_serving options) false (receiver_packet (receiver_serving options)) × (left_up file (receiver_serving options) < 2 * length file + 5) =
       subst (λ (x : Options). Talk file s (receiver_serving x) false (receiver_packet (receiver_serving x)) × (left_up file (receiver_serving x) < 2 * length file + 5)) (sym is_options) (writing_begins name file told fine.fits) in
-      let came : Came (may_ask set getter) own peer i (IsIn (Receives (receiver_serving options))) d =
+      let came : CameInCourse (may_ask set getter) own peer i (IsIn (Receives (receiver_serving options))) d =
       as_request i (Wrq name s.options) (requests_are_read name file told named fine.fits).1 (ap (λ (x : Options). may_ask set getter (Wrq name x)) (sym is_options) ∙ may) (omega arith) refl refl in
       let next = meets_next set n c getter poster own peer i i i Rests (HasAsked (Writes name wanted_so file)) (IsIn (Receives (receiver_serving options))) before [] (datagram getter (own + i) (peer + i) (receiver_packet (receiver_serving options)) ∷ []) (peer + i) 59 (packet_bytes (Wrq name s.options))
       m (after_serving i (Receives (receiver_serving options))) came r id in
@@ -378,7 +378,7 @@ module _ (set : Setting) (wanted : List Wanted) (loads : List LoadView) (joins :
 
   -- the end goes on
   hears_going : (c : World) (getter poster : Side) (own peer i : ℕ) (mine : Position) (row : RowView) (end : LinkEnd) (p : PacketView) (a : Answer) (arrived : List ℕ) → Opposite getter poster
-      → c.target.active.identity ≡ set.start.identity → 59 < own → StandsIn getter c.posts own peer i mine (end_at c getter) → Holds mine end → packet_in (packet_bytes p) ≡ Some p → end_answer end p ≡ a → IsGoing a → IsRunning (end_moved end a)
+      → c.target.active.identity ≡ set.start.identity → 59 < own → StandsIn getter c.posts own peer i mine (end_at c getter) → Holds mine end → packet_in (packet_bytes p) ≡ Some p → end_answer end p ≡ a → IsGoing a → IsEndRunning (end_moved end a)
       → Rattle.session_completion.specs.Course.IsSummed row → InRow set wanted c getter row arrived
       → Reacts set c getter poster (Gets (peer + i) (own + i) (packet_bytes p)) own peer i (IsIn (end_moved end a)) (datagram getter (own + i) (peer + i) (end_packet (end_moved end a)) ∷ [])
       × InRow set wanted (delivered_to set c poster (Gets (peer + i) (own + i) (packet_bytes p))) getter row (arrived ++ payload_of a)
@@ -390,7 +390,7 @@ module _ (set : Setting) (wanted : List Wanted) (loads : List LoadView) (joins :
       let decided = at_loader.goes_on set.media c.loader (loader_session set wanted row arrived) session (peer + i) (own + i) (packet_bytes p) p is a going (not_59 own i low) (is_mine sides.Loader c.posts own peer i mine end c.loader.end holds stands) says in
       let moved : Moved sides.Loader c.loader.end (Hears (peer + i) p ∷ []) c.posts own peer i (IsIn (end_moved end a)) new =
       subst (λ (x : Answer). Moved sides.Loader c.loader.end (Hears (peer + i) p ∷ []) c.posts own peer i (IsIn (end_moved end x)) (datagram sides.Loader (own + i) (peer + i) (end_packet (end_moved end x)) ∷ [])) answers
-      (goes sides.Loader c.posts own peer i mine end c.loader.end p holds (subst (λ (x : Answer). IsGoing x) (sym answers) going) (subst (λ (x : Answer). IsRunning (end_moved end x)) (sym answers) runs) stands) in (
+      (goes sides.Loader c.posts own peer i mine end c.loader.end p holds (subst (λ (x : Answer). IsGoing x) (sym answers) going) (subst (λ (x : Answer). IsEndRunning (end_moved end x)) (sym answers) runs) stands) in (
         loader_reacts set c e own peer i (IsIn (end_moved end a)) new (loader_reaches set.media c.loader e (Hears (peer + i) p ∷ []) (loader.Continues (payload_of a)) c.posts own peer i (IsIn (end_moved end a)) new decided moved),
         loader_row_then c e (Hears (peer + i) p ∷ []) arrived (payload_of a) row decided session,
         id,
@@ -402,7 +402,7 @@ module _ (set : Setting) (wanted : List Wanted) (loads : List LoadView) (joins :
       let decided = at_target.goes_on set.accepts c.target (peer + i) (own + i) (packet_bytes p) p is (target_session row arrived) session.0 a going (not_59 own i low) (is_mine sides.Target c.posts own peer i mine end c.target.end holds stands) says in
       let moved : Moved sides.Target c.target.end (Hears (peer + i) p ∷ []) c.posts own peer i (IsIn (end_moved end a)) new =
       subst (λ (x : Answer). Moved sides.Target c.target.end (Hears (peer + i) p ∷ []) c.posts own peer i (IsIn (end_moved end x)) (datagram sides.Target (own + i) (peer + i) (end_packet (end_moved end x)) ∷ [])) answers
-      (goes sides.Target c.posts own peer i mine end c.target.end p holds (subst (λ (x : Answer). IsGoing x) (sym answers) going) (subst (λ (x : Answer). IsRunning (end_moved end x)) (sym answers) runs) stands) in
+      (goes sides.Target c.posts own peer i mine end c.target.end p holds (subst (λ (x : Answer). IsGoing x) (sym answers) going) (subst (λ (x : Answer). IsEndRunning (end_moved end x)) (sym answers) runs) stands) in
       let then = target_row_then c e (Hears (peer + i) p ∷ []) arrived (payload_of a) row summed decided session in (
         target_reacts set c e own peer i (IsIn (end_moved end a)) new (target_reaches set.accepts c.target e (Hears (peer + i) p ∷ []) (target.Continues (payload_of a)) c.posts own peer i (IsIn (end_moved end a)) new decided moved),
         then,
@@ -450,7 +450,7 @@ module _ (set : Setting) (wanted : List Wanted) (loads : List LoadView) (joins :
       let e = Gets (peer + i) (own + i) (packet_bytes p) in
       let d = datagram poster (peer + i) (own + i) p in
       let new = datagram getter (own + i) (peer + i) (receiver_packet next) ∷ [] in
-      let came : Came (may_ask set getter) own peer i (IsIn (Receives next)) d = here p is goes.behind refl refl in
+      let came : CameInCourse (may_ask set getter) own peer i (IsIn (Receives next)) d = here p is goes.behind refl refl in
       let then = meets_next set n c getter poster own peer i i i mine yours (IsIn (Receives next)) before [] new (peer + i) (own + i) (packet_bytes p) m (after_receiving i mine r next holds goes.later) came reacts id in
       let few = goes.left in
       record {
@@ -481,7 +481,7 @@ module _ (set : Setting) (wanted : List Wanted) (loads : List LoadView) (joins :
       let e = Gets (peer + i) (own + i) (packet_bytes p) in
       let d = datagram poster (peer + i) (own + i) p in
       let new = datagram getter (own + i) (peer + i) (sender_packet next) ∷ [] in
-      let came : Came (may_ask set getter) own peer i (IsIn (Sends next)) d = here p is goes.behind refl refl in
+      let came : CameInCourse (may_ask set getter) own peer i (IsIn (Sends next)) d = here p is goes.behind refl refl in
       let then = meets_next set n c getter poster own peer i i i mine yours (IsIn (Sends next)) before [] new (peer + i) (own + i) (packet_bytes p) m (after_sending i mine s next holds goes.later) came reacts id in
       let few = goes.left in
       record {
@@ -538,7 +538,7 @@ module _ (set : Setting) (wanted : List Wanted) (loads : List LoadView) (joins :
   record TakesLastBlock (c : World) (getter poster : Side) (own peer i : ℕ) (mine : Position) (row : RowView) (s : Sender) (r : Receiver) (p : PacketView) (payload : List ℕ) : Type 0 where
     next : Receiver
     next_is : next ≡ receiver_moved r (TakesLast payload)
-    whole : IsWhole (file_in set wanted row) s next (receiver_packet next)
+    whole : TookLastBlock (file_in set wanted row) s next (receiver_packet next)
     few : 0 < left_down (file_in set wanted row) r p
     arrived : taken_of (file_in set wanted row) r ++ payload ≡ file_in set wanted row
     last : TookLast getter c.posts own peer i (end_at c getter) p r payload
@@ -588,9 +588,9 @@ module _ (set : Setting) (wanted : List Wanted) (loads : List LoadView) (joins :
       let c' = delivered_to set c poster e in
       let d = datagram poster (peer + i) (own + i) p in
       let next = receiver_moved r (TakesLast payload) in
-      let whole : IsWhole file s next (receiver_packet next) = subst (λ (x : Receiver). IsWhole file s x (receiver_packet x)) t.next_is t.whole in
+      let whole : TookLastBlock file s next (receiver_packet next) = subst (λ (x : Receiver). TookLastBlock file s x (receiver_packet x)) t.next_is t.whole in
       let new = datagram getter (own + i) (peer + i) (receiver_packet next) ∷ [] in
-      let came : Came (may_ask set getter) own peer (i + 1) Rests d = Rattle.session_completion.specs.Stages.earlier i p is (omega arith) refl refl in
+      let came : CameInCourse (may_ask set getter) own peer (i + 1) Rests d = Rattle.session_completion.specs.Stages.earlier i p is (omega arith) refl refl in
       let then = meets_next set n c getter poster own peer i i (i + 1) mine yours Rests before [] new (peer + i) (own + i) (packet_bytes p) m (after_end i mine) came reacts id in
       let flipped = meets_flipped set (n + 1) c' getter poster own peer (i + 1) i Rests yours (before ++ d ∷ []) new then in
       let placed = subst (λ (y : Position). Meets set (n + 1) c' poster getter peer own i (i + 1) y Rests (before ++ d ∷ []) new) (sends_still poster yours s held whole.running) flipped in
@@ -600,7 +600,7 @@ module _ (set : Setting) (wanted : List Wanted) (loads : List LoadView) (joins :
         left = cost set wanted more (next_row set wanted row) + 1;
         fewer = omega arith;
         stage = closing poster getter peer own i (before ++ d ∷ []) more row s next acked (room_behind own peer i more room) sends (course.0, course.1, turn)
-            (record { kept = kept; phase = refl; whole = subst (λ (q : PacketView). IsWhole file s next q) t.acks whole })
+            (record { kept = kept; phase = refl; whole = subst (λ (q : PacketView). TookLastBlock file s next q) t.acks whole })
             (other_row set wanted c getter poster e row [] m.opposite other) session;
         resets = reacts.resets;
       }
@@ -622,9 +622,9 @@ module _ (set : Setting) (wanted : List Wanted) (loads : List LoadView) (joins :
       let d = datagram poster (peer + i) (own + i) p in
       let next = receiver_moved r (TakesLast payload) in
       let role = role_in set wanted (next_row set wanted row) told in
-      let whole : IsWhole file s next (receiver_packet next) = subst (λ (x : Receiver). IsWhole file s x (receiver_packet x)) t.next_is t.whole in
+      let whole : TookLastBlock file s next (receiver_packet next) = subst (λ (x : Receiver). TookLastBlock file s x (receiver_packet x)) t.next_is t.whole in
       let new = datagram getter (own + i) (peer + i) (receiver_packet next) ∷ request getter (own + (i + 1)) role ∷ [] in
-      let came : Came (may_ask set getter) own peer (i + 1) (HasAsked role) d = Rattle.session_completion.specs.Stages.earlier i p is (omega arith) refl refl in
+      let came : CameInCourse (may_ask set getter) own peer (i + 1) (HasAsked role) d = Rattle.session_completion.specs.Stages.earlier i p is (omega arith) refl refl in
       let then = meets_next set n c getter poster own peer i i (i + 1) mine yours (HasAsked role) before [] new (peer + i) (own + i) (packet_bytes p) m (after_asking i mine role) came reacts id in
       let flipped = meets_flipped set (n + 1) c' getter poster own peer (i + 1) i (HasAsked role) yours (before ++ d ∷ []) new then in
       let placed = subst (λ (y : Position). Meets set (n + 1) c' poster getter peer own i (i + 1) y (HasAsked role) (before ++ d ∷ []) new) (sends_still poster yours s held whole.running) flipped in
@@ -634,7 +634,7 @@ module _ (set : Setting) (wanted : List Wanted) (loads : List LoadView) (joins :
         left = cost set wanted more (next_row set wanted row) + 1;
         fewer = omega arith;
         stage = early poster getter peer own i (before ++ d ∷ []) more row s next told acked (room_behind own peer i more room) sends (course.0, course.1, turn)
-            (record { kept = kept; phase = refl; whole = subst (λ (q : PacketView). IsWhole file s next q) t.acks whole })
+            (record { kept = kept; phase = refl; whole = subst (λ (q : PacketView). TookLastBlock file s next q) t.acks whole })
             (other_row set wanted c getter poster e row [] m.opposite other) session;
         resets = reacts.resets;
       }
@@ -651,7 +651,7 @@ module _ (set : Setting) (wanted : List Wanted) (loads : List LoadView) (joins :
       ∙ ap (λ (x : Rattle.session_rules.specs.LoaderRows.LoaderRow). let s : LoaderSession = record { start = Rattle.session_completion.specs.Stages.starting set wanted; row = x; arriving = Rattle.session_rules.specs.Buffers.empty_buffer } in Some s) f
       ∙ ap (λ (b : Rattle.session_rules.specs.Buffers.Buffer). let s : LoaderSession = record { start = Rattle.session_completion.specs.Stages.starting set wanted; row = loader_row next; arriving = b } in Some s) no_bytes
 
-  file_turn_is : (row : RowView) (first payload file : List ℕ) (t : Rattle.session_rules.specs.LoaderRows.Turn) → first ++ payload ≡ file → file_turn (loader_row row) (buffered file) ≡ t
+  file_turn_is : (row : RowView) (first payload file : List ℕ) (t : Rattle.session_rules.specs.LoaderRows.RowTurn) → first ++ payload ≡ file → file_turn (loader_row row) (buffered file) ≡ t
       → file_turn (loader_session set wanted row first).row (buffered_more (loader_session set wanted row first).arriving payload) ≡ t
   file_turn_is row first payload file t e f =
       ap (λ (b : Rattle.session_rules.specs.Buffers.Buffer). file_turn (loader_row row) b) (buffered_on first payload ∙ ap (λ (x : List ℕ). buffered x) e) ∙ f
@@ -795,10 +795,10 @@ module _ (set : Setting) (wanted : List Wanted) (loads : List LoadView) (joins :
       let moves = Hears (peer + i) p ∷ Stops ∷ [] in
       let change = loader.Ends outcome payload in
       let after = loader_is set.media c.loader event moves change decided in
-      let whole : IsWhole file s next (receiver_packet next) = subst (λ (x : Receiver). IsWhole file s x (receiver_packet x)) t.next_is t.whole in
+      let whole : TookLastBlock file s next (receiver_packet next) = subst (λ (x : Receiver). TookLastBlock file s x (receiver_packet x)) t.next_is t.whole in
       let new = datagram sides.Loader (own + i) (peer + i) (receiver_packet next) ∷ [] in
       let reacts = loader_reacts set c event own peer (i + 1) Rests new (loader_reaches set.media c.loader event moves change c.posts own peer (i + 1) Rests new decided (then_stops sides.Loader c.loader.end (Hears (peer + i) p) c.posts own peer (i + 1) new t.last.moved)) in
-      let came : Came (may_ask set sides.Loader) own peer (i + 1) Rests d = Rattle.session_completion.specs.Stages.earlier i p is (omega arith) refl refl in
+      let came : CameInCourse (may_ask set sides.Loader) own peer (i + 1) Rests d = Rattle.session_completion.specs.Stages.earlier i p is (omega arith) refl refl in
       let then = meets_next set n c sides.Loader sides.Target own peer i i (i + 1) mine yours Rests before [] new (peer + i) (own + i) (packet_bytes p) m (after_end i mine) came reacts m.identity in
       let flipped = meets_flipped set (n + 1) c' sides.Loader sides.Target own peer (i + 1) i Rests yours (before ++ d ∷ []) new then in
       let placed = subst (λ (y : Position). Meets set (n + 1) c' sides.Target sides.Loader peer own i (i + 1) y Rests (before ++ d ∷ []) new) (sends_still sides.Target yours s held whole.running) flipped in
@@ -808,7 +808,7 @@ module _ (set : Setting) (wanted : List Wanted) (loads : List LoadView) (joins :
         left = 1;
         fewer = omega arith;
         stage = ending peer own i (before ++ d ∷ []) row s next acked (room_flipped own peer i 1 room) course
-            (record { kept = ap (λ (x : EndView). x.kept) (loader_end_is set.media c.loader event moves change decided) ∙ t.last.kept; phase = refl; whole = subst (λ (q : PacketView). IsWhole file s next q) t.acks whole })
+            (record { kept = ap (λ (x : EndView). x.kept) (loader_end_is set.media c.loader event moves change decided) ∙ t.last.kept; phase = refl; whole = subst (λ (q : PacketView). TookLastBlock file s next q) t.acks whole })
             other (
               ap (λ (v : LoaderView). v.live) after,
               subst (λ (v : LoaderView). Rattle.replay_rules.specs.Promises.HasCompleted Rattle.session_rules.specs.declared.outcome.SessionKind.TheVariants.Upload v.ended) (sym after) (is_done first payload row c.loader.live c.loader.ended session),
@@ -877,12 +877,12 @@ module _ (set : Setting) (wanted : List Wanted) (loads : List LoadView) (joins :
 
   -- ---- the acknowledgement of the last block
 
-  is_last_ack : (s : Sender) (file : List ℕ) (r : Receiver) → IsWhole file s r (Ack s.sent) → sender_answer s (Ack s.sent) ≡ Completes
+  is_last_ack : (s : Sender) (file : List ℕ) (r : Receiver) → TookLastBlock file s r (Ack s.sent) → sender_answer s (Ack s.sent) ≡ Completes
   is_last_ack s file r whole =
       let e : s.sent ≡ Rattle.tftp_link.specs.Sender.last_of s = whole.last ∙ ap (λ (f : List ℕ). Rattle.tftp_link.specs.Negotiation.block_count (length f) s.size) (sym whole.of_file) in
       rw (whole.running, eq_true s.sent s.sent refl, eq_true s.sent (Rattle.tftp_link.specs.Sender.last_of s) e) refl
 
-  ack_read : (s : Sender) (file : List ℕ) (r : Receiver) → IsWhole file s r (Ack s.sent) → packet_in (packet_bytes (Ack s.sent)) ≡ Some (Ack s.sent)
+  ack_read : (s : Sender) (file : List ℕ) (r : Receiver) → TookLastBlock file s r (Ack s.sent) → packet_in (packet_bytes (Ack s.sent)) ≡ Some (Ack s.sent)
   ack_read s file r whole = let few = whole.fits.few in let l = whole.last in written_is_read (Ack s.sent) (omega arith) tt
 
   -- where the other end has asked already, nothing is posted
@@ -946,7 +946,7 @@ module _ (set : Setting) (wanted : List Wanted) (loads : List LoadView) (joins :
       let new = request sides.Target (own + (i + 1)) role ∷ [] in
       let reacts = target_reacts set c e own peer (i + 1) (HasAsked role) new (target_reaches set.accepts c.target e moves change c.posts own peer (i + 1) (HasAsked role) new decided
       (then_asks sides.Target c.target.end (Hears (peer + i) p) role c.posts own peer (i + 1) [] (hears_done sides.Target c.posts own peer i c.target.end s p answers m.me))) in
-      let came : Came (may_ask set sides.Target) own peer (i + 1) (HasAsked role) d = Rattle.session_completion.specs.Stages.earlier i p is (omega arith) refl refl in
+      let came : CameInCourse (may_ask set sides.Target) own peer (i + 1) (HasAsked role) d = Rattle.session_completion.specs.Stages.earlier i p is (omega arith) refl refl in
       let met = meets_next set n c sides.Target sides.Loader own peer i (i + 1) (i + 1) (IsIn (Sends s)) Rests (HasAsked role) before [] new (peer + i) (own + i) (packet_bytes p) m (after_asking i (IsIn (Sends s)) role) came reacts (row_identity (target_after set.accepts c.target e) next then.1) in
       record {
         left = cost set wanted more next;
@@ -985,7 +985,7 @@ module _ (set : Setting) (wanted : List Wanted) (loads : List LoadView) (joins :
       let change = target.Turns (move_for set.accepts c.target (target_session row []) []) [] in
       let then = target_row_over c.target e moves [] [] row step decided session.0 session.1 none in
       let reacts = target_reacts set c e own peer (i + 1) Rests [] (target_reaches set.accepts c.target e moves change c.posts own peer (i + 1) Rests [] decided (hears_done sides.Target c.posts own peer i c.target.end s p answers m.me)) in
-      let came : Came (may_ask set sides.Target) own peer (i + 1) Rests d = Rattle.session_completion.specs.Stages.earlier i p is (omega arith) refl refl in
+      let came : CameInCourse (may_ask set sides.Target) own peer (i + 1) Rests d = Rattle.session_completion.specs.Stages.earlier i p is (omega arith) refl refl in
       let met = meets_next set n c sides.Target sides.Loader own peer i (i + 1) (i + 1) (IsIn (Sends s)) (HasAsked role) Rests before (request sides.Loader (peer + (i + 1)) role ∷ []) [] (peer + i) (own + i) (packet_bytes p) m (after_end i (IsIn (Sends s))) came reacts
       (row_identity (target_after set.accepts c.target e) next then.1) in (
         record {
@@ -1020,7 +1020,7 @@ module _ (set : Setting) (wanted : List Wanted) (loads : List LoadView) (joins :
       let decided = at_loader.sent_and_waits set.media c.loader (loader_session set wanted row []) session (peer + i) (own + i) (packet_bytes p) p is waits (not_59 own i m.own_low) (is_mine sides.Loader c.posts own peer i (IsIn (Sends s)) (Sends s) c.loader.end holds m.me) says in
       let moves = Hears (peer + i) p ∷ [] in
       let reacts = loader_reacts set c e own peer (i + 1) Rests [] (loader_reaches set.media c.loader e moves loader.Advances c.posts own peer (i + 1) Rests [] decided (hears_done sides.Loader c.posts own peer i c.loader.end s p answers m.me)) in
-      let came : Came (may_ask set sides.Loader) own peer (i + 1) Rests d = Rattle.session_completion.specs.Stages.earlier i p is (omega arith) refl refl in
+      let came : CameInCourse (may_ask set sides.Loader) own peer (i + 1) Rests d = Rattle.session_completion.specs.Stages.earlier i p is (omega arith) refl refl in
       let met = meets_next set n c sides.Loader sides.Target own peer i (i + 1) (i + 1) (IsIn (Sends s)) (HasAsked role) Rests before (request sides.Target (peer + (i + 1)) role ∷ []) [] (peer + i) (own + i) (packet_bytes p) m (after_end i (IsIn (Sends s))) came reacts m.identity in (
         record {
           left = cost set wanted more next;
@@ -1082,7 +1082,7 @@ module _ (set : Setting) (wanted : List Wanted) (loads : List LoadView) (joins :
       let active = ap (λ (v : TargetView). v.active) after ∙ session.1 in
       let reacts = target_reacts set c e own peer (i + 1) Rests [] (target_reaches set.accepts c.target e moves change c.posts own peer (i + 1) Rests [] decided
       (then_stops sides.Target c.target.end (Hears (peer + i) p) c.posts own peer (i + 1) [] (hears_done sides.Target c.posts own peer i c.target.end s p answers m.me))) in
-      let came : Came (may_ask set sides.Target) own peer (i + 1) Rests d = Rattle.session_completion.specs.Stages.earlier i p is (omega arith) refl refl in
+      let came : CameInCourse (may_ask set sides.Target) own peer (i + 1) Rests d = Rattle.session_completion.specs.Stages.earlier i p is (omega arith) refl refl in
       let met = meets_next set n c sides.Target sides.Loader own peer i (i + 1) (i + 1) (IsIn (Sends s)) Rests Rests before [] [] (peer + i) (own + i) (packet_bytes p) m (after_end i (IsIn (Sends s))) came reacts (row_identity (target_after set.accepts c.target e) row active) in
       record {
         left = 0;

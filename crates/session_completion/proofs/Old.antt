@@ -28,7 +28,7 @@ use Rattle.session_rules.specs.TargetRows.{Arriving, Kept_bytes, Kept_sums, with
 use Rattle.session_rules.specs.Target as target
 use Rattle.session_rules.specs.Target.{TargetView, TargetSession, TargetDecision, target_posts, target_after, target_changed}
 use Rattle.transfer_completion.specs.Replies.{Replies, IsOldPacket, AreQuiet}
-use Rattle.transfer_completion.specs.ReplyLaws.{IsDroppedOrAgain, old_is_quiet, old_is_not_awaited}
+use Rattle.transfer_completion.proofs.ReplyLemmas.{IsDroppedOrAgain, old_is_quiet, old_is_not_awaited}
 use Rattle.session_completion.specs.Requests.{is_there, is_own_file, is_write, SumFits, SessionFits, NoMoreSums}
 
 plus_zero : (n : ℕ) → n + 0 ≡ n

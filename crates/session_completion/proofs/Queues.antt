@@ -5,7 +5,7 @@ use Rattle.std.proofs.lemmas.List.{drop-append-le}
 use Rattle.exchange_trace.specs.Happenings.{DatagramView}
 use Rattle.exchange_trace.specs.Posts.{numbered}
 use Rattle.transfer_completion.specs.Replies.{acknowledges, weight, IsLighter, IsOld}
-use Rattle.transfer_completion.specs.BlockLaws.{eq_false}
+use Rattle.transfer_completion.proofs.BlockLemmas.{eq_false}
 
 -- ---- weights
 

@@ -11,11 +11,11 @@ use Rattle.tftp_packet.specs.Packets.{PacketView}
 use Rattle.transfer_end.specs.Transfers.{LinkEnd}
 use Rattle.session_rules.specs.TargetRows.{RowView}
 use Rattle.replay_rules.specs.BothEnds.{Setting}
-use Rattle.transfer_completion.specs.MoveLaws.{more_posts}
+use Rattle.transfer_completion.proofs.MoveLemmas.{more_posts}
 use Rattle.transfer_completion.specs.Positions.{HasAsked, IsBehind, IsBehindIn, IsIn, Position, Rests, StandsIn, heard}
 use Rattle.transfer_end.specs.Transfers.{Role}
 use Rattle.session_completion.specs.Retries.{loader_retries, target_retries}
-use Rattle.session_completion.specs.Stages.{Came, InRow, IsPosted, Meets, Opposite, as_request, earlier, end_at, here, may_ask, to_loader, to_target}
+use Rattle.session_completion.specs.Stages.{CameInCourse, InRow, IsPosted, Meets, Opposite, as_request, earlier, end_at, here, may_ask, to_loader, to_target}
 use Rattle.session_completion.specs.Worlds.{World, delivered_to, last_of, waits}
 use Rattle.session_completion.proofs.LoaderSteps.{LoaderReaches}
 use Rattle.session_completion.proofs.TargetSteps.{TargetReaches}
@@ -70,7 +70,7 @@ pub record IsAfter (i : ℕ) (position : Position) (i' : ℕ) (position' : Posit
   pub heard_by : heard position i ≤ heard position' i'
   pub behind : (p : PacketView) → IsBehindIn position p → ((i' ≡ i) × IsBehindIn position' p) ⊎ (i < i')
 
-pub still_came : (may : PacketView → Bool) (own peer i i' : ℕ) (position position' : Position) (d : DatagramView) → IsAfter i position i' position' → Came may own peer i position d → Came may own peer i' position' d
+pub still_came : (may : PacketView → Bool) (own peer i i' : ℕ) (position position' : Position) (d : DatagramView) → IsAfter i position i' position' → CameInCourse may own peer i position d → CameInCourse may own peer i' position' d
 still_came may own peer i i' position position' d after (as_request j p is ok lt from to) = let h = after.heard_by in as_request j p is ok (omega arith) from to
 still_came may own peer i i' position position' d after (earlier j p is lt from to) = let h = after.index in earlier j p is (omega arith) from to
 still_came may own peer i i' position position' d after (here p is behind from to) = elim (after.behind p behind) [
@@ -111,7 +111,7 @@ abbrev sent_by : Side → (from to : ℕ) → List ℕ → DatagramView
 sent_by side from to bytes = record { side = side; from = from; to = to; bytes = bytes }
 
 pub meets_next : (set : Setting) (n : ℕ) (c : World) (getter poster : Side) (own peer i j i' : ℕ) (mine yours mine' : Position) (before rest new : List DatagramView) (from to : ℕ) (bytes : List ℕ)
-    → Meets set n c getter poster own peer i j mine yours before (sent_by poster from to bytes ∷ rest) → IsAfter i mine i' mine' → Came (may_ask set getter) own peer i' mine' (sent_by poster from to bytes)
+    → Meets set n c getter poster own peer i j mine yours before (sent_by poster from to bytes ∷ rest) → IsAfter i mine i' mine' → CameInCourse (may_ask set getter) own peer i' mine' (sent_by poster from to bytes)
     → Reacts set c getter poster (Gets from to bytes) own peer i' mine' new → (delivered_to set c poster (Gets from to bytes)).target.active.identity ≡ set.start.identity
     → Meets set (n + 1) (delivered_to set c poster (Gets from to bytes)) getter poster own peer i' j mine' yours (before ++ sent_by poster from to bytes ∷ []) (rest ++ new)
 meets_next set n c getter poster own peer i j i' mine yours mine' before rest new from to bytes m after now r id =
@@ -128,7 +128,7 @@ meets_next set n c getter poster own peer i j i' mine yours mine' before rest ne
       count = length-append before (d ∷ []) ∙ ap (λ (k : ℕ). k + 1) m.count;
       to_me = λ x has side. elim (Contains-push_cases before d x has) [
         | inl old ↦ still_came (may_ask set getter) own peer i i' mine mine' x after (m.to_me x old side)
-        | inr same ↦ subst (λ (y : DatagramView). Came (may_ask set getter) own peer i' mine' y) same now
+        | inr same ↦ subst (λ (y : DatagramView). CameInCourse (may_ask set getter) own peer i' mine' y) same now
       ];
       to_you = λ x has side. elim (Contains-push_cases before d x has) [
         | inl old ↦ m.to_you x old side

@@ -12,7 +12,7 @@ use Rattle.exchange_trace.specs.Posts.{numbered}
 use Rattle.tftp_packet.specs.Packets.{PacketView, packet_bytes}
 use Rattle.transfer_end.specs.Packets.{packet_in}
 use Rattle.transfer_end.specs.Transfers.{Sends, first_packet}
-use Rattle.session_rules.specs.BufferLaws.{SumsJoin}
+use Rattle.session_rules.proofs.BufferLemmas.{SumsJoin}
 use Rattle.session_rules.specs.TargetRows.{RowView, Gives_lci, Writes_lcs, Writes_lcl, Gives_lui, Gives_denial, Writes_ready, Awaits_lur, Reads_file, Writes_progress, Writes_stop, Writes_completion, Over}
 use Rattle.replay_rules.specs.BothEnds.{Setting}
 use Rattle.transfer_completion.specs.Positions.{IsIn, IsPast, Position, Rests}
@@ -22,7 +22,7 @@ use Rattle.session_completion.specs.Laws.{AllComeOut, ComesOut, FewAreAhead, Las
 use Rattle.session_completion.specs.Requests.{is_write}
 use Rattle.session_completion.specs.Shapes.{HasShape, NextResets, ResetsAt, always}
 use Rattle.session_completion.specs.Stages as stages
-use Rattle.session_completion.specs.Stages.{Came, IsPosted, Meets, Opposite, Where, asked, closing, down, early, ending, may_ask, over, to_loader, to_target, up}
+use Rattle.session_completion.specs.Stages.{CameInCourse, IsPosted, Meets, Opposite, Where, asked, closing, down, early, ending, may_ask, over, to_loader, to_target, up}
 use Rattle.session_completion.specs.Worlds.{World, delivered, last_of, waits}
 use Rattle.session_completion.proofs.Next as next
 use Rattle.session_completion.proofs.Queues.{first_or_none, next_drop, none_drop}
@@ -31,7 +31,7 @@ use Rattle.session_completion.proofs.Stands.{all_stand, drop_before, leads_on, n
 use Rattle.session_completion.specs.Course.{Course, IsFine, IsInUpload, IsLater, asker, file_in, next_row, own_file_name, role_in}
 use Rattle.session_rules.specs.declared.outcome.FileKind.TheVariants.{Lui, Lur, Lus}
 use Rattle.session_rules.specs.Uploads.{next_name}
-use Rattle.transfer_completion.specs.TalkLaws.{requests_are_read}
+use Rattle.transfer_completion.proofs.TalkLemmas.{requests_are_read}
 
 -- ---- numbers
 
@@ -78,7 +78,7 @@ abbrev may_hurry : Side → PacketView → Bool
 may_hurry sides.Loader = always
 may_hurry sides.Target = is_write
 
-came_is_past : (may hurry : PacketView → Bool) (own peer i : ℕ) (position : Position) (d : DatagramView) → Came may own peer i position d → IsPast may hurry own peer i position d
+came_is_past : (may hurry : PacketView → Bool) (own peer i : ℕ) (position : Position) (d : DatagramView) → CameInCourse may own peer i position d → IsPast may hurry own peer i position d
 came_is_past may hurry own peer i position d (stages.as_request j p is ok lt from to) = positions.was_asked j p is ok lt from to
 came_is_past may hurry own peer i position d (stages.earlier j p is lt from to) = positions.earlier j p is lt from to
 came_is_past may hurry own peer i position d (stages.here p is behind from to) = positions.here p is behind from to

@@ -8,7 +8,7 @@ use Rattle.exchange_trace.specs.declared.trace.Side.TheVariants as sides
 use Rattle.session_rules.specs.declared.outcome.FileKind.{FileKind}
 use Rattle.session_rules.specs.declared.outcome.FileKind.TheVariants.{Lci, Lui}
 use Rattle.session_rules.specs.Buffers.{Buffer, Sums}
-use Rattle.session_rules.specs.BufferLaws.{SumsJoin, buffered_on, summed_on}
+use Rattle.session_rules.proofs.BufferLemmas.{SumsJoin, buffered_on, summed_on}
 use Rattle.session_rules.specs.FileNames.{extension, file_name}
 use Rattle.session_rules.specs.Loader.{LoaderSession}
 use Rattle.session_rules.specs.Loader as loader
@@ -17,7 +17,7 @@ use Rattle.session_rules.specs.Target.{TargetSession, TargetView, active_in}
 use Rattle.session_rules.specs.TargetRows.{Arriving, Kept_bytes, Kept_sums, RowView, Gives_lci, Writes_lcs, Writes_lcl, Gives_lui, Gives_denial, Writes_ready, Awaits_lur, Reads_file, Writes_progress, Writes_stop, Writes_completion, Over, arriving_load, arriving_of, row_move, said_length, view_moved, with_bytes}
 use Rattle.session_rules.specs.Uploads.{OpenLoadView, next_entry}
 use Rattle.replay_rules.specs.BothEnds.{Setting}
-use Rattle.session_completion.specs.Course.{IsLater, IsSum, IsSummed, LoaderGoesOn, arrives_in, asker, file_in, next_row, role_in}
+use Rattle.session_completion.specs.Course.{IsLater, IsSum, IsSummed, LoaderReadsOn, arrives_in, asker, file_in, next_row, role_in}
 use Rattle.session_completion.specs.Stages.{loader_session, target_session}
 
 -- ---- names
@@ -63,7 +63,7 @@ active_identity o (Writes_completion e loads) = refl
 active_identity o Over = refl
 
 -- before the installation it is what it was
-pub active_stays : (o : Outline) (row : RowView) (file : List ℕ) → LoaderGoesOn row file → active_in o row ≡ o
+pub active_stays : (o : Outline) (row : RowView) (file : List ℕ) → LoaderReadsOn row file → active_in o row ≡ o
 active_stays o Gives_lci file h = refl
 active_stays o Writes_lcs file h = refl
 active_stays o Writes_lcl file h = refl

@@ -15,10 +15,10 @@ use Rattle.transfer_completion.specs.Replies.{IsOld}
 use Rattle.transfer_completion.specs.Retries.{with_retries}
 use Rattle.session_completion.specs.Requests.{SessionFits}
 use Rattle.session_completion.specs.Worlds.{World, delivered, told, ticked, retried, waits, last_of, retried_loader, retried_target}
-use Rattle.session_completion.specs.Clean.{Clean, learns, goes, StandsAt, AreAmong}
+use Rattle.session_completion.specs.Clean.{Clean, learns, goes, WorldStandsAt, AreAmong}
 use Rattle.session_completion.specs.Laws.{retries_of_getter, LastWasPosted, NextMoves, OldIsHarmless}
 use Rattle.session_completion.specs.Safety.{was_old, was_next, DeliveringIsSafe, TickingIsSafe, TellingIsSafe, retries_of}
-use Rattle.transfer_completion.specs.BlockLaws.{lt_true}
+use Rattle.transfer_completion.proofs.BlockLemmas.{lt_true}
 use Rattle.transfer_end.specs.Views.{EndView}
 use Rattle.disk_layout.specs.Holds.{Outline}
 use Rattle.session_rules.specs.declared.reason.Reason.{Reason}
@@ -57,7 +57,7 @@ is_among all ds d a has = All-contains (λ (x : DatagramView). Contains all x) d
 posts_as : (w c : World) (l t : ℕ) (posts : List DatagramView) → w ≡ retried c l t posts → w.posts ≡ posts
 posts_as w c l t posts e = ap (λ (x : World). x.posts) e
 
-pub stands : (set : Setting) (loads : List LoadView) (n : ℕ) (c w : World) (l t : ℕ) (posts : List DatagramView) → Clean set loads n c → w ≡ retried c l t posts → AreAmong c.posts posts → StandsAt set loads n c w l t
+pub stands : (set : Setting) (loads : List LoadView) (n : ℕ) (c w : World) (l t : ℕ) (posts : List DatagramView) → Clean set loads n c → w ≡ retried c l t posts → AreAmong c.posts posts → WorldStandsAt set loads n c w l t
 stands set loads n c w l t posts clean e among =
     let p : posts ≡ w.posts = sym (posts_as w c l t posts e) in
     record { clean = clean; same = e ∙ ap (λ (ds : List DatagramView). retried c l t ds) p; among = subst (λ (ds : List DatagramView). AreAmong c.posts ds) p among }
@@ -111,7 +111,7 @@ ticking_is_safe posted set loads n c w sides.Target l t at waiting left =
     (among_more c.posts w.posts (d ∷ []) at.among (has, tt))
 
 -- what a tick posts
-pub tick_posts : (set : Setting) (loads : List LoadView) (n : ℕ) (c w : World) (side : Side) (l t : ℕ) (d : DatagramView) → StandsAt set loads n c w l t → waits c side ≡ true → retries_of side l t < 5
+pub tick_posts : (set : Setting) (loads : List LoadView) (n : ℕ) (c w : World) (side : Side) (l t : ℕ) (d : DatagramView) → WorldStandsAt set loads n c w l t → waits c side ≡ true → retries_of side l t < 5
     → last_of c side ≡ Some d → (ticked set w side).posts ≡ w.posts ++ d ∷ []
 tick_posts set loads n c w sides.Loader l t d at waiting left last =
     ap (λ (x : World). (ticked set x sides.Loader).posts) at.same ∙ ap (λ (ds : List DatagramView). w.posts ++ ds) (loader_ticks set.media c.loader.end c.loader.live c.loader.ended l d waiting left last).1
@@ -122,5 +122,5 @@ waits_as : (c : World) (l t : ℕ) (posts : List DatagramView) (side : Side) →
 waits_as c l t posts sides.Loader = refl
 waits_as c l t posts sides.Target = refl
 
-pub waits_same : (set : Setting) (loads : List LoadView) (n : ℕ) (c w : World) (side : Side) (l t : ℕ) → StandsAt set loads n c w l t → waits w side ≡ waits c side
+pub waits_same : (set : Setting) (loads : List LoadView) (n : ℕ) (c w : World) (side : Side) (l t : ℕ) → WorldStandsAt set loads n c w l t → waits w side ≡ waits c side
 waits_same set loads n c w side l t at = ap (λ (x : World). waits x side) at.same ∙ waits_as c l t w.posts side

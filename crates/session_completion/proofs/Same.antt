@@ -19,13 +19,13 @@ use Rattle.session_rules.specs.Buffers.{buffered_more}
 use Rattle.session_rules.specs.FileNames.{file_name}
 use Rattle.session_rules.specs.Loader as loader
 use Rattle.session_rules.specs.Loader.{LoaderView, LoaderSession, Start, LoaderDecision, LoaderChange, loader_decision, loader_changed}
-use Rattle.session_rules.specs.LoaderRows.{Turn, Goes_on, Comes_to, kind_taken, serves_files, first_row, row_after, file_turn}
+use Rattle.session_rules.specs.LoaderRows.{RowTurn, Goes_on, Comes_to, kind_taken, serves_files, first_row, row_after, file_turn}
 use Rattle.session_rules.specs.MediaFiles.{Media, wanted_of}
 use Rattle.session_rules.specs.TargetRows.{RowView, RowMove, row_move, view_moved, with_bytes, Awaits_lur, Gives_lci, Writes_lcs, Writes_lcl, Gives_lui, Gives_denial, Writes_ready, Reads_file, Writes_progress, Writes_stop, Writes_completion, Over}
 use Rattle.session_rules.specs.Target as target
 use Rattle.session_rules.specs.Target.{TargetView, TargetSession, TargetDecision, TargetChange, target_decision, target_changed}
-use Rattle.transfer_completion.specs.Retries.{with_retries, IsNoTick, NoTicks}
-use Rattle.transfer_completion.specs.RetryLaws.{moves_do_the_same}
+use Rattle.transfer_completion.specs.Retries.{with_retries, IsNoRepeat, NoTicks}
+use Rattle.transfer_completion.proofs.RetryLemmas.{moves_do_the_same}
 use Rattle.session_completion.specs.Retries.{IsNoTicking, loader_retries, target_retries, LoaderDoesTheSame, TargetDoesTheSame}
 use Rattle.session_completion.specs.Worlds.{retried_loader, retried_target}
 
@@ -33,7 +33,7 @@ if_no : (b : Bool) (d e : LoaderDecision) → NoTicks d.moves → NoTicks e.move
 if_no true d e x y = x
 if_no false d e x y = y
 
-more_no : (ms : List Move) (m : Move) → NoTicks ms → IsNoTick m → NoTicks (ms ++ m ∷ [])
+more_no : (ms : List Move) (m : Move) → NoTicks ms → IsNoRepeat m → NoTicks (ms ++ m ∷ [])
 more_no [] m k j = (j, tt)
 more_no (n ∷ ms) m k j = (k.0, more_no ms m k.1 j)
 
@@ -85,7 +85,7 @@ next_no : (v : EndView) (ms : List Move) (last : List ℕ) (role : Option Role) 
 next_no v ms last None k = k
 next_no v ms last (Some role) k = if_no (has_port v) _ _ (more_no ms (Asks role) k tt) (more_no ms Stops k tt)
 
-turn_no : (v : EndView) (s : LoaderSession) (ms : List Move) (last : List ℕ) (t : Turn) → NoTicks ms → NoTicks (loader.turn_decision v s ms last t).moves
+turn_no : (v : EndView) (s : LoaderSession) (ms : List Move) (last : List ℕ) (t : RowTurn) → NoTicks ms → NoTicks (loader.turn_decision v s ms last t).moves
 turn_no v s ms last Goes_on k = next_no v ms last (loader.row_request v.asks_size s.start (row_after s.row)) k
 turn_no v s ms last (Comes_to outcome) k = more_no ms Stops k tt
 

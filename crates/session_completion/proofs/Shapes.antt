@@ -9,7 +9,7 @@ use Rattle.transfer_end.specs.Views.{EndView}
 use Rattle.session_rules.specs.Loader.{LoaderView, loader_posts, loader_after}
 use Rattle.session_rules.specs.Target.{TargetView, target_posts, target_after}
 use Rattle.replay_rules.specs.BothEnds.{Setting}
-use Rattle.transfer_completion.specs.PastLaws.{past_is_old, past_request_is_spent}
+use Rattle.transfer_completion.proofs.PastLemmas.{past_is_old, past_request_is_spent}
 use Rattle.transfer_completion.specs.Positions.{Position, StandsIn, IsPast}
 use Rattle.transfer_completion.specs.Replies.{IsOld, IsLighter, IsReplyTo, Replies}
 use Rattle.transfer_completion.specs.Retries.{with_retries}

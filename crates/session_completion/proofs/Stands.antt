@@ -16,7 +16,7 @@ use Rattle.transfer_end.specs.Packets.{wanted_options}
 use Rattle.transfer_end.specs.Transfers.{Reads, Role}
 use Rattle.transfer_end.specs.Views.{EndView, TransferView}
 use Rattle.session_rules.specs.declared.outcome.FileKind.TheVariants.{Lui}
-use Rattle.session_rules.specs.BufferLaws.{SumsJoin}
+use Rattle.session_rules.proofs.BufferLemmas.{SumsJoin}
 use Rattle.session_rules.specs.Buffers.{Buffer, buffer_size, buffered, empty_buffer}
 use Rattle.session_rules.specs.Loader as loader
 use Rattle.session_rules.specs.Loader.{LoaderDecision, LoaderSession, LoaderView, loader_posts}
@@ -25,11 +25,11 @@ use Rattle.session_rules.specs.MediaFiles.{wanted_of}
 use Rattle.session_rules.specs.Target.{TargetSession, TargetView}
 use Rattle.session_rules.specs.TargetRows.{RowView, Gives_lui}
 use Rattle.replay_rules.specs.BothEnds.{Setting}
-use Rattle.transfer_completion.specs.BlockLaws.{lt_true, lt_false}
-use Rattle.transfer_completion.specs.MoveLaws.{asks}
-use Rattle.transfer_completion.specs.Positions.{HasAsked, IsKept, Position, Rests, StandsIn}
-use Rattle.transfer_completion.specs.TalkLaws.{receiver_goes_on, sender_goes_on, talk_is_read}
-use Rattle.session_completion.specs.Clean.{Clean, IsBelow, IsIdle, IsNext, goes, learns, starts}
+use Rattle.transfer_completion.proofs.BlockLemmas.{lt_true, lt_false}
+use Rattle.transfer_completion.proofs.MoveLemmas.{asks}
+use Rattle.transfer_completion.specs.Positions.{HasAsked, IsKeptTransfer, Position, Rests, StandsIn}
+use Rattle.transfer_completion.proofs.TalkLemmas.{receiver_goes_on, sender_goes_on, talk_is_read}
+use Rattle.session_completion.specs.Clean.{Clean, IsBelow, AreEndsIdle, IsNext, goes, learns, starts}
 use Rattle.session_completion.specs.Course.{Course, cost, file_in, own_file_name, role_in}
 use Rattle.session_completion.specs.Stages.{InRow, IsPosted, KeepsWhole, Meets, TargetBefore, Where, asked, closing, down, early, end_at, ending, over, starting, to_target, up}
 use Rattle.session_completion.specs.Worlds.{World, at_loader, last_of, told, waits}
@@ -170,7 +170,7 @@ module _ (set : Setting) (wanted : List Wanted) (loads : List LoadView) (joins :
 
 -- ---- the start
 
-below_kept : (side : Side) (posts : List DatagramView) (own peer : ℕ) (kept : Option TransferView) → IsBelow own kept → IsKept side posts own peer 0 kept
+below_kept : (side : Side) (posts : List DatagramView) (own peer : ℕ) (kept : Option TransferView) → IsBelow own kept → IsKeptTransfer side posts own peer 0 kept
 below_kept side posts own peer None h = tt
 below_kept side posts own peer (Some x) h = inl h
 
@@ -202,7 +202,7 @@ same_start : (live : Option LoaderSession) (s : LoaderSession) (row : Buffer) �
 same_start live s row = rw (take-nil buffer_size) refl
 
 -- at the start the loader has asked for the first file
-pub starts_where : (set : Setting) (loads : List LoadView) (w : World) (parts : List (List ℕ)) (wanted : List Wanted) (more : ℕ) → IsIdle set (more + 1) w → Course set wanted loads more Gives_lui → length parts ≤ 32 → wanted_of set.media.loads parts ≡ Ok wanted
+pub starts_where : (set : Setting) (loads : List LoadView) (w : World) (parts : List (List ℕ)) (wanted : List Wanted) (more : ℕ) → AreEndsIdle set (more + 1) w → Course set wanted loads more Gives_lui → length parts ≤ 32 → wanted_of set.media.loads parts ≡ Ok wanted
     → Where set wanted loads 0 (at_loader set w (Starts_upload set.start.identity.hw set.start.identity.pos parts)) (cost set wanted more Gives_lui)
 starts_where set loads w parts wanted more idle course few on_media =
     let e = Starts_upload set.start.identity.hw set.start.identity.pos parts in

@@ -1,6 +1,6 @@
 -- All that holds of clean uploads, and what follows.
-use Rattle.session_rules.specs.BufferLaws.{SumsJoin}
-use Rattle.session_completion.specs.Finish.{FinishEnds}
+use Rattle.session_rules.proofs.BufferLemmas.{SumsJoin}
+use Rattle.session_completion.specs.Finish.{UploadFinishEnds}
 use Rattle.session_completion.specs.Laws.{CleanLaws, NextMoves, OldIsHarmless}
 use Rattle.session_completion.specs.Safety.{DeliveringIsSafe, TickingIsSafe}
 use Rattle.session_completion.proofs.Again.{next_comes_again}
@@ -33,5 +33,5 @@ delivering_keeps joins = delivering_is_safe (old_changes_nothing joins) (next_go
 pub ticking_keeps : SumsJoin → TickingIsSafe
 ticking_keeps joins = ticking_is_safe (last_was_posted joins)
 
-pub finish_comes_to_an_end : SumsJoin → FinishEnds
+pub finish_comes_to_an_end : SumsJoin → UploadFinishEnds
 finish_comes_to_an_end joins = finish_ends (clean_laws joins)

@@ -7,11 +7,11 @@ use Rattle.std.proofs.lemmas.List.Elements.{All-from_recursion}
 use Rattle.std.proofs.lemmas.List.Folds.{concat-append}
 use Rattle.std.proofs.lemmas.Bool.Decides.{nat_tests}
 use Rattle.field_grammar.specs.Answers.{answer}
-use Rattle.field_grammar.specs.ExactLaws.{answer-spelled, spelled_at_start}
+use Rattle.field_grammar.proofs.ExactLemmas.{answer-spelled, spelled_at_start}
 use Rattle.field_grammar.specs.Fields.{number_bytes}
 use Rattle.field_grammar.specs.Grammar.{Follows, Grammar, IsBytes, Spelled, check, choose, field, give, judge, left, prefix, renamed, seq, zero_ended}
-use Rattle.field_grammar.specs.NumberLaws.{length_number_bytes}
-use Rattle.field_grammar.specs.WrittenLaws.{at_most_each}
+use Rattle.field_grammar.proofs.NumberLemmas.{length_number_bytes}
+use Rattle.field_grammar.proofs.WrittenLemmas.{at_most_each}
 use Rattle.load_base.specs.Text.{IsText}
 use Rattle.load_protocol_files.specs.declared.lui.Lui.{Lui}
 use Rattle.load_protocol_files.specs.declared.lur.Wanted.{Wanted}
@@ -19,20 +19,20 @@ use Rattle.load_protocol_files.specs.declared.lus.LoadStatus.{LoadStatus}
 use Rattle.load_protocol_files.specs.Files.{file_fields}
 use Rattle.load_protocol_files.specs.Lui.{LuiSpells, lui}
 use Rattle.load_protocol_files.specs.Lur.{LurFits, LurSpells, LurView, WantedFits, lur}
-use Rattle.load_protocol_files.specs.LurLaws.{file_size, lur_is_small}
+use Rattle.load_protocol_files.specs.Laws.Lur.{file_size, lur_is_small}
 use Rattle.load_protocol_files.specs.Lus.{LoadStatusFits, LusFits, LusSpells, LusView, counts_fields, load_status_fields, lus, lus_fields, progress_fields}
-use Rattle.load_protocol_files.specs.LusLaws.{lus_is_small}
+use Rattle.load_protocol_files.specs.Laws.Lus.{lus_is_small}
 use Rattle.load_protocol_files.specs.Pieces.{counted_fields, ratio_digits}
 use Rattle.load_protocol_files.specs.Reply.{ReplyFits}
-use Rattle.load_protocol_files.specs.ReplyLaws.{reply_is_small}
+use Rattle.load_protocol_files.specs.Laws.Replies.{reply_is_small}
 use Rattle.session_rules.specs.Buffers.{buffer_size, buffered}
-use Rattle.session_rules.specs.LoaderRows.{Goes_on, LoaderRow, Reads_lui, Serves_files, Takes_lus, Turn, bytes_turn, file_turn}
+use Rattle.session_rules.specs.LoaderRows.{Goes_on, LoaderRow, Reads_lui, Serves_files, Takes_lus, RowTurn, bytes_turn, file_turn}
 use Rattle.session_rules.specs.Reports.{accepting_lui, completed_lus, load_status, load_statuses, lur_file, lus_view_of, progress_lus, ratio_of, ready_lus}
 use Rattle.session_rules.specs.Uploads.{judge_request}
-use Rattle.transfer_completion.specs.BlockLaws.{lt_false}
+use Rattle.transfer_completion.proofs.BlockLemmas.{lt_false}
 use Rattle.transfer_completion.specs.Talks.{FitsBlocks}
-use Rattle.session_completion.specs.GoodRequests.{CanBeExchanged, RequestsAreRead}
-use Rattle.part_number.specs.VerdictLaws.{part_size}
+use Rattle.session_completion.specs.GoodRequests.{CanBeExchanged, UploadRequestsAreRead}
+use Rattle.part_number.proofs.VerdictLemmas.{part_size}
 use Rattle.std.proofs.Math.Nat.{div-le_of_le-mul}
 
 -- ---- what follows a format are bytes
@@ -178,7 +178,7 @@ lus_fits status counter ratio loads a b c few each = record {
 }
 
 -- a status file is read, and can be exchanged
-lus_is_read : FormatsAreExact → (status counter ratio : ℕ) (loads : List LoadStatus) (bytes : List ℕ) (row : LoaderRow) (t : Turn) → LusFits (lus_view_of status [] counter ratio loads) → length loads ≤ 32
+lus_is_read : FormatsAreExact → (status counter ratio : ℕ) (loads : List LoadStatus) (bytes : List ℕ) (row : LoaderRow) (t : RowTurn) → LusFits (lus_view_of status [] counter ratio loads) → length loads ≤ 32
     → bytes ≡ concat (file_fields (lus_fields (lus_view_of status [] counter ratio loads))) → (answer lus bytes ≡ Ok (lus_view_of status [] counter ratio loads) → bytes_turn row bytes ≡ t)
     → CanBeExchanged bytes × (file_turn row (buffered bytes) ≡ t)
 lus_is_read exact status counter ratio loads bytes row t fits few e turn =
@@ -199,7 +199,7 @@ completed_is : (wanted : List Wanted) (counter : ℕ) → completed_lus wanted c
 unfolding completed_lus
 completed_is wanted counter = refl
 
-pub files_are_read : FormatsAreExact → RequestsAreRead
+pub files_are_read : FormatsAreExact → UploadRequestsAreRead
 files_are_read exact wanted fits some few =
     let lui_spelled = (exact.lui_spelled accepting_lui accepted_lui).1 lui_spells in
     let lur_fits : LurFits (record { loads = wanted }) = record { count = omega arith; loads = All-from_recursion (λ (w : Wanted). WantedFits w) wanted fits } in

@@ -27,7 +27,7 @@ IsBelow port (Some t) = t.own < port
 
 -- Both ends before the start: neither waits, this many ports are left, and the ports that each draws from now on are above
 -- the other's mark. What is active at the target is what the setting begins with.
-pub record IsIdle (set : Setting) (ports : ℕ) (w : World) : Type 0 where
+pub record AreEndsIdle (set : Setting) (ports : ℕ) (w : World) : Type 0 where
   pub loader : w.loader.live ≡ None
   pub loader_free : w.loader.end.live ≡ None
   pub target : w.target.live ≡ None
@@ -46,7 +46,7 @@ pub record IsIdle (set : Setting) (ports : ℕ) (w : World) : Type 0 where
 
 -- This many datagrams were delivered, in the order of their posts. The upload's rows go well, and there are ports for them.
 pub data Clean (set : Setting) (loads : List LoadView) : ℕ → World → Type 0 where
-  starts : (w : World) (parts : List (List ℕ)) (wanted : List Wanted) (more : ℕ) → IsIdle set (more + 1) w → Course set wanted loads more Gives_lui
+  starts : (w : World) (parts : List (List ℕ)) (wanted : List Wanted) (more : ℕ) → AreEndsIdle set (more + 1) w → Course set wanted loads more Gives_lui
       → length parts ≤ 32 → wanted_of set.media.loads parts ≡ Ok wanted
       → Clean set loads 0 (at_loader set w (Starts_upload set.start.identity.hw set.start.identity.pos parts))
   learns : (n : ℕ) (w : World) (size : Option ℕ) → Clean set loads n w → Clean set loads n (told set w size)
@@ -58,7 +58,7 @@ AreAmong all ds = AllByRecursion (λ (d : DatagramView). Contains all d) ds
 
 -- A world stands where a clean upload stands after this many deliveries, with this many retries at its ends; whatever was posted
 -- in it was posted there.
-pub record StandsAt (set : Setting) (loads : List LoadView) (n : ℕ) (c w : World) (loader target : ℕ) : Type 0 where
+pub record WorldStandsAt (set : Setting) (loads : List LoadView) (n : ℕ) (c w : World) (loader target : ℕ) : Type 0 where
   pub clean : Clean set loads n c
   pub same : w ≡ retried c loader target w.posts
   pub among : AreAmong c.posts w.posts
@@ -74,7 +74,7 @@ abbrev pub IsRepeated : World → DatagramView → Type 0
 IsRepeated c d = (waits c d.side ≡ true) × (last_of c d.side ≡ Some d)
 
 -- or a tick at the other end posts what its poster answers with it again
-pub record IsAnswered (set : Setting) (c : World) (d : DatagramView) : Type 0 where
+pub record IsAnsweredAgain (set : Setting) (c : World) (d : DatagramView) : Type 0 where
   pub asked : DatagramView
   pub waiting : waits c (other d.side) ≡ true
   pub last : last_of c (other d.side) ≡ Some asked

@@ -133,18 +133,18 @@ pub record IsFine (set : Setting) (wanted : List Wanted) (row : RowView) : Type 
   pub summed : IsSummed row
 
 -- the loader goes on with what it receives
-abbrev pub LoaderGoesOn : RowView → List ℕ → Type 0
-LoaderGoesOn Gives_lui file = file_turn Reads_lui (buffered file) ≡ Goes_on
-LoaderGoesOn Writes_ready file = file_turn Takes_lus (buffered file) ≡ Goes_on
-LoaderGoesOn (Writes_progress u) file = file_turn Serves_files (buffered file) ≡ Goes_on
-LoaderGoesOn Awaits_lur file = Unit {0}
-LoaderGoesOn (Reads_file u) file = Unit {0}
-LoaderGoesOn row file = ⊥
+abbrev pub LoaderReadsOn : RowView → List ℕ → Type 0
+LoaderReadsOn Gives_lui file = file_turn Reads_lui (buffered file) ≡ Goes_on
+LoaderReadsOn Writes_ready file = file_turn Takes_lus (buffered file) ≡ Goes_on
+LoaderReadsOn (Writes_progress u) file = file_turn Serves_files (buffered file) ≡ Goes_on
+LoaderReadsOn Awaits_lur file = Unit {0}
+LoaderReadsOn (Reads_file u) file = Unit {0}
+LoaderReadsOn row file = ⊥
 
 -- the transfer of a row leads to another row
 pub record IsStep (set : Setting) (wanted : List Wanted) (row : RowView) : Type 0 where
   pub fine : IsFine set wanted row
-  pub goes_on : LoaderGoesOn row (file_in set wanted row)
+  pub goes_on : LoaderReadsOn row (file_in set wanted row)
   pub later : IsLater (next_row set wanted row)
   pub asks : sender_in row ≡ sides.Loader → IsAfterRequest (next_row set wanted row)
 

@@ -19,7 +19,7 @@ use Rattle.replay_rules.specs.ListTraces.{OwnFilesAreNamed}
 use Rattle.replay_rules.specs.OtherEndTraces.{IsUninjected}
 use Rattle.replay_rules.specs.Runs.{IsQuiet, IsWithinMargin, loader_retries, target_retries}
 use Rattle.replay_rules.specs.Ties.{IsTied}
-use Rattle.session_completion.specs.Clean.{AreAmong, IsIdle}
+use Rattle.session_completion.specs.Clean.{AreAmong, AreEndsIdle}
 use Rattle.session_completion.specs.GoodUploads.{IsFinished, Leads, started}
 use Rattle.session_completion.specs.Worlds.{World}
 
@@ -67,7 +67,7 @@ pub record IsNamed (set : Setting) (steps : List Step) (free : IsFaultFree set s
 -- A quiet run leaves both ends idle, with as many ports as are left, and with what is active then.
 abbrev pub QuietIsIdle : Type 0
 QuietIsIdle = (set : Setting) (steps : List Step) (ports : ℕ) (w : World) → IsUninjected set steps → IsQuiet set steps → HasPorts (loader_at set steps).end ports
-    → IsReadyFor (target_at set steps) ports → w.posts ≡ [] → IsWorldOf set steps (posted_in steps) w → IsIdle (setting_after set steps) ports w
+    → IsReadyFor (target_at set steps) ports → w.posts ≡ [] → IsWorldOf set steps (posted_in steps) w → AreEndsIdle (setting_after set steps) ports w
 
 -- A fault-free run within the margin is completed by a `finish` of its world: its loads are active then, beside what is kept of
 -- what was active at its start.

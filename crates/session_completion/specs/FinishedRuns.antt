@@ -15,7 +15,7 @@ use Rattle.replay_rules.specs.FaultFree.{IsFaultFree}
 use Rattle.replay_rules.specs.Histories.{active_at, active_by}
 use Rattle.replay_rules.specs.MediaTraces.{LengthsAreTold}
 use Rattle.replay_rules.specs.Promises.{EndsOnce, HasCompleted, IsTrace, NoneGoesDown, OnlyFinishIsLeft}
-use Rattle.replay_rules.specs.Runs.{Follows, IsQuiet, IsWithinMargin, plan_at, scene_at}
+use Rattle.replay_rules.specs.Runs.{TraceFollows, IsQuiet, IsWithinMargin, plan_at, scene_at}
 use Rattle.session_completion.specs.FaultFreeRuns.{IsNamed}
 
 -- ---- a last `finish` is left
@@ -46,11 +46,11 @@ pub record ReachesFinish (set : Setting) (script : List Line) (steps : List Step
 
 -- Each run that ended of a script whose last line is `finish` comes to where that is left.
 abbrev pub LastFinishIsReached : Type 0
-LastFinishIsReached = (set : Setting) (lines : List Line) (steps : List Step) → EndsOnce steps → Follows set (lines ++ Finish ∷ []) steps → ReachesFinish set (lines ++ Finish ∷ []) steps
+LastFinishIsReached = (set : Setting) (lines : List Line) (steps : List Step) → EndsOnce steps → TraceFollows set (lines ++ Finish ∷ []) steps → ReachesFinish set (lines ++ Finish ∷ []) steps
 
 -- From there on power is neither lost nor switched.
 abbrev pub FinishLeavesPower : Type 0
-FinishLeavesPower = (set : Setting) (script : List Line) (steps more : List Step) → FinishIsLeft set script steps → Follows set script (more ++ steps)
+FinishLeavesPower = (set : Setting) (script : List Line) (steps more : List Step) → FinishIsLeft set script steps → TraceFollows set script (more ++ steps)
     → AllByRecursion (λ (s : Step). LeavesPower s.given) more
 
 -- ---- and is followed
@@ -60,7 +60,7 @@ FinishLeavesPower = (set : Setting) (script : List Line) (steps more : List Step
 pub record IsLeftToFinish (set : Setting) (script : List Line) (steps more : List Step) : Type 0 where
   pub trace : IsTrace set (more ++ steps)
   pub carries : AllCarryBytes (more ++ steps)
-  pub follows : Follows set script (more ++ steps)
+  pub follows : TraceFollows set script (more ++ steps)
   pub left : FinishIsLeft set script steps
   pub stays_up : NoneGoesDown more
 

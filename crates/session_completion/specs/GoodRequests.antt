@@ -34,15 +34,15 @@ pub record FilesAreRead (wanted : List Wanted) : Type 0 where
       → CanBeExchanged (completed_lus wanted counter) × (file_turn Serves_files (buffered (completed_lus wanted counter)) ≡ Comes_to Completed)
 
 -- the files of these loads are bytes, and their headers have names
-pub record AreFiles (wanted : List Wanted) (loads : List LoadView) : Type 0 where
+pub record HaveNamedFiles (wanted : List Wanted) (loads : List LoadView) : Type 0 where
   pub named : AllByRecursion (λ (w : Wanted). IsName w.header) wanted
   pub bytes : AllByRecursion (λ (f : FileView). IsBytes f.bytes) (files_in loads)
 
 -- From good loads that the media set has, the rows of their upload go well, with as many transfers as there are ports for.
 abbrev pub GoodLoadsLeadOn : Type 0
-GoodLoadsLeadOn = (set : Setting) (wanted : List Wanted) (loads : List LoadView) → AreServed set wanted loads → 1 ≤ length loads → OwnFilesAreNamed set → FilesAreRead wanted → AreFiles wanted loads
+GoodLoadsLeadOn = (set : Setting) (wanted : List Wanted) (loads : List LoadView) → AreServed set wanted loads → 1 ≤ length loads → OwnFilesAreNamed set → FilesAreRead wanted → HaveNamedFiles wanted loads
     → (more : ℕ) × (more + 1 ≡ ports_for loads) × Course set wanted loads more Gives_lui
 
 -- So it is of loads that can be asked for, 32 of them at most.
-abbrev pub RequestsAreRead : Type 0
-RequestsAreRead = (wanted : List Wanted) → AllByRecursion (λ (w : Wanted). WantedFits w) wanted → 1 ≤ length wanted → length wanted ≤ 32 → FilesAreRead wanted
+abbrev pub UploadRequestsAreRead : Type 0
+UploadRequestsAreRead = (wanted : List Wanted) → AllByRecursion (λ (w : Wanted). WantedFits w) wanted → 1 ≤ length wanted → length wanted ≤ 32 → FilesAreRead wanted

@@ -18,14 +18,14 @@ use Rattle.replay_rules.specs.BothEnds.{Setting}
 use Rattle.replay_rules.specs.FaultFree.{AreServed, ports_for}
 use Rattle.replay_rules.specs.ListTraces.{OwnFilesAreNamed}
 use Rattle.replay_rules.specs.Promises.{HasCompleted}
-use Rattle.session_completion.specs.Clean.{AreAmong, IsIdle}
-use Rattle.session_completion.specs.Finish.{Finishes}
+use Rattle.session_completion.specs.Clean.{AreAmong, AreEndsIdle}
+use Rattle.session_completion.specs.Finish.{WorldFinishes}
 use Rattle.session_completion.specs.Worlds.{World, at_loader, delivered, told, ticked, waits}
 
 -- Both ends are idle, with ports for these loads; of 1 to 32 parts, the media set has these loads, which are good for the
 -- target beside what is active there. What is named has names, and files are bytes.
 pub record IsGoodStart (set : Setting) (parts : List (List ℕ)) (wanted : List Wanted) (loads : List LoadView) (w : World) : Type 0 where
-  pub idle : IsIdle set (ports_for loads) w
+  pub idle : AreEndsIdle set (ports_for loads) w
   pub some : 1 ≤ length parts
   pub few : length parts ≤ 32
   pub on_media : wanted_of set.media.loads parts ≡ Ok wanted
@@ -53,7 +53,7 @@ pub data Leads (set : Setting) (from : World) : World → Type 0 where
 -- target are its loads, and then those that are kept of what was active before.
 pub record IsFinished (set : Setting) (loads : List LoadView) (w : World) (queue : List DatagramView) (first : Side) : Type 0 where
   pub last : World
-  pub finishes : Finishes set w queue first last
+  pub finishes : WorldFinishes set w queue first last
   pub loader : waits last sides.Loader ≡ false
   pub target : waits last sides.Target ≡ false
   pub completed : HasCompleted Upload last.loader.ended

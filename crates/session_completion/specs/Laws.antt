@@ -8,7 +8,7 @@ use Rattle.exchange_trace.specs.Posts.{numbered}
 use Rattle.replay_rules.specs.BothEnds.{Setting}
 use Rattle.transfer_completion.specs.Replies.{IsOld, IsLighter}
 use Rattle.session_completion.specs.Worlds.{World, delivered, retried, waits, last_of}
-use Rattle.session_completion.specs.Clean.{Clean, IsNext, IsRepeated, IsAnswered, IsDone}
+use Rattle.session_completion.specs.Clean.{Clean, IsNext, IsRepeated, IsAnsweredAgain, IsDone}
 
 -- Of all that was posted, only the next datagram moves an end. Each other changes nothing, whatever the retries and the posts
 -- are, and is answered by nothing, or by one datagram that was posted before and has less weight.
@@ -35,7 +35,7 @@ LastWasPosted = (set : Setting) (loads : List LoadView) (n : ℕ) (c : World) (s
 
 -- Where a datagram is next, a tick at one end that waits posts it, or makes its poster post it.
 abbrev pub NextComesAgain : Type 0
-NextComesAgain = (set : Setting) (loads : List LoadView) (n : ℕ) (c : World) (d : DatagramView) → Clean set loads n c → IsNext n c d → IsRepeated c d ⊎ IsAnswered set c d
+NextComesAgain = (set : Setting) (loads : List LoadView) (n : ℕ) (c : World) (d : DatagramView) → Clean set loads n c → IsNext n c d → IsRepeated c d ⊎ IsAnsweredAgain set c d
 
 -- Where none is next, the upload is over at both ends.
 abbrev pub LastIsDone : Type 0

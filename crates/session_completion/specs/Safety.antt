@@ -6,18 +6,18 @@ use Rattle.exchange_trace.specs.declared.trace.Side.TheVariants as sides
 use Rattle.exchange_trace.specs.Happenings.{DatagramView, other}
 use Rattle.replay_rules.specs.BothEnds.{Setting}
 use Rattle.session_completion.specs.Worlds.{World, delivered, told, ticked, waits}
-use Rattle.session_completion.specs.Clean.{StandsAt, IsNext}
+use Rattle.session_completion.specs.Clean.{WorldStandsAt, IsNext}
 use Rattle.session_completion.specs.Laws.{retries_of_getter}
 
 -- a datagram that is delivered changes nothing, or is the next one
 pub data AfterDelivery (set : Setting) (loads : List LoadView) (n : ℕ) (c w : World) (d : DatagramView) (loader target : ℕ) : Type 0 where
-  was_old : StandsAt set loads n c (delivered set w d) loader target → AfterDelivery set loads n c w d loader target
-  was_next : IsNext n c d → StandsAt set loads (n + 1) (delivered set c d) (delivered set w d) (retries_of_getter d.side loader) (retries_of_getter (other d.side) target)
+  was_old : WorldStandsAt set loads n c (delivered set w d) loader target → AfterDelivery set loads n c w d loader target
+  was_next : IsNext n c d → WorldStandsAt set loads (n + 1) (delivered set c d) (delivered set w d) (retries_of_getter d.side loader) (retries_of_getter (other d.side) target)
       → AfterDelivery set loads n c w d loader target
 
 -- Any datagram that was posted may be delivered, as often as one likes.
 abbrev pub DeliveringIsSafe : Type 0
-DeliveringIsSafe = (set : Setting) (loads : List LoadView) (n : ℕ) (c w : World) (d : DatagramView) (loader target : ℕ) → StandsAt set loads n c w loader target → Contains w.posts d
+DeliveringIsSafe = (set : Setting) (loads : List LoadView) (n : ℕ) (c w : World) (d : DatagramView) (loader target : ℕ) → WorldStandsAt set loads n c w loader target → Contains w.posts d
     → AfterDelivery set loads n c w d loader target
 
 -- the retries of the two ends, with a tick more
@@ -33,10 +33,10 @@ retries_of sides.Target loader target = target
 
 -- An end that waits and hasn't made five retries may be ticked.
 abbrev pub TickingIsSafe : Type 0
-TickingIsSafe = (set : Setting) (loads : List LoadView) (n : ℕ) (c w : World) (side : Side) (loader target : ℕ) → StandsAt set loads n c w loader target → waits c side ≡ true
-    → retries_of side loader target < 5 → StandsAt set loads n c (ticked set w side) (ticked_at side sides.Loader loader) (ticked_at side sides.Target target)
+TickingIsSafe = (set : Setting) (loads : List LoadView) (n : ℕ) (c w : World) (side : Side) (loader target : ℕ) → WorldStandsAt set loads n c w loader target → waits c side ≡ true
+    → retries_of side loader target < 5 → WorldStandsAt set loads n c (ticked set w side) (ticked_at side sides.Loader loader) (ticked_at side sides.Target target)
 
 -- A block size may be told at any time.
 abbrev pub TellingIsSafe : Type 0
-TellingIsSafe = (set : Setting) (loads : List LoadView) (n : ℕ) (c w : World) (size : Option ℕ) (loader target : ℕ) → StandsAt set loads n c w loader target
-    → StandsAt set loads n (told set c size) (told set w size) loader target
+TellingIsSafe = (set : Setting) (loads : List LoadView) (n : ℕ) (c w : World) (size : Option ℕ) (loader target : ℕ) → WorldStandsAt set loads n c w loader target
+    → WorldStandsAt set loads n (told set c size) (told set w size) loader target

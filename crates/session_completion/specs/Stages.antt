@@ -24,7 +24,7 @@ use Rattle.session_rules.specs.TargetLog.{standing_after}
 use Rattle.session_rules.specs.TargetRows.{RowView, Gives_lui, arriving_of}
 use Rattle.replay_rules.specs.BothEnds.{Setting}
 use Rattle.replay_rules.specs.Promises.{HasCompleted}
-use Rattle.transfer_completion.specs.Laws.{IsWhole}
+use Rattle.transfer_completion.specs.Laws.{TookLastBlock}
 use Rattle.transfer_completion.specs.Positions.{Position, Rests, HasAsked, IsIn, IsBehindIn, StandsIn, heard}
 use Rattle.transfer_completion.specs.Talks.{Talk, left_down, left_up, taken_of}
 use Rattle.session_completion.specs.Course.{Course, IsStep, asker, cost, cost_behind, file_in, loader_row, next_row, role_in, sender_in}
@@ -49,10 +49,10 @@ may_ask set sides.Target = is_own_file set.start.identity
 
 -- A datagram came to an end that stands so: the request of a transfer that it took up, a packet of an earlier transfer, or one
 -- of this transfer.
-pub data Came (may : PacketView → Bool) (own peer i : ℕ) (position : Position) (d : DatagramView) : Type 0 where
-  as_request : (j : ℕ) (p : PacketView) → packet_in d.bytes ≡ Some p → may p ≡ true → j < heard position i → d.from ≡ peer + j → d.to ≡ 59 → Came may own peer i position d
-  earlier : (j : ℕ) (p : PacketView) → packet_in d.bytes ≡ Some p → j < i → d.from ≡ peer + j → d.to ≡ own + j → Came may own peer i position d
-  here : (p : PacketView) → packet_in d.bytes ≡ Some p → IsBehindIn position p → d.from ≡ peer + i → d.to ≡ own + i → Came may own peer i position d
+pub data CameInCourse (may : PacketView → Bool) (own peer i : ℕ) (position : Position) (d : DatagramView) : Type 0 where
+  as_request : (j : ℕ) (p : PacketView) → packet_in d.bytes ≡ Some p → may p ≡ true → j < heard position i → d.from ≡ peer + j → d.to ≡ 59 → CameInCourse may own peer i position d
+  earlier : (j : ℕ) (p : PacketView) → packet_in d.bytes ≡ Some p → j < i → d.from ≡ peer + j → d.to ≡ own + j → CameInCourse may own peer i position d
+  here : (p : PacketView) → packet_in d.bytes ≡ Some p → IsBehindIn position p → d.from ≡ peer + i → d.to ≡ own + i → CameInCourse may own peer i position d
 
 abbrev pub IsPosted : List DatagramView → Option DatagramView → Type 0
 IsPosted posts last = (d : DatagramView) × (last ≡ Some d) × Contains posts d
@@ -67,8 +67,8 @@ pub record Meets (set : Setting) (n : ℕ) (c : World) (getter poster : Side) (o
   pub you : StandsIn poster c.posts peer own j yours (end_at c poster)
   pub posts : c.posts ≡ before ++ ahead
   pub count : length before ≡ n
-  pub to_me : (d : DatagramView) → Contains before d → d.side ≡ poster → Came (may_ask set getter) own peer i mine d
-  pub to_you : (d : DatagramView) → Contains before d → d.side ≡ getter → Came (may_ask set poster) peer own j yours d
+  pub to_me : (d : DatagramView) → Contains before d → d.side ≡ poster → CameInCourse (may_ask set getter) own peer i mine d
+  pub to_you : (d : DatagramView) → Contains before d → d.side ≡ getter → CameInCourse (may_ask set poster) peer own j yours d
   pub i_posted : waits c getter ≡ true → IsPosted c.posts (last_of c getter)
   pub you_posted : waits c poster ≡ true → IsPosted c.posts (last_of c poster)
   pub identity : c.target.active.identity ≡ set.start.identity
@@ -115,7 +115,7 @@ HoldsSender position s =
 pub record KeepsWhole (c : World) (poster : Side) (own peer i : ℕ) (file : List ℕ) (s : Sender) (r : Receiver) : Type 0 where
   pub kept : (end_at c poster).kept ≡ Some (record { own = peer + i; peer = Some (own + i); end = Receives r })
   pub phase : r.phase ≡ Finished
-  pub whole : IsWhole file s r (Ack s.sent)
+  pub whole : TookLastBlock file s r (Ack s.sent)
 
 -- the transfer of a row leads to another one, for which this end asks
 abbrev pub IsStepTo : Setting → List Wanted → List LoadView → (more : ℕ) → RowView → Side → Type 0

@@ -1,11 +1,12 @@
 //! What holds of uploads in which nothing is lost, and of runs that stand where these stand. These
 //! functions do nothing; their clauses are the law.
-ghost use Rattle.session_completion.specs.FaultFreeRuns.{FaultFreeGivesNoneUp, FaultFreeRunsComplete};
+ghost use Rattle.session_completion.specs.FaultFreeRuns.{FaultFreeGivesNoneUp};
+ghost use Rattle.session_completion.specs.FaultFreeRuns.{FaultFreeRunsComplete};
 ghost use Rattle.session_completion.specs.FaultFreeRuns.{FaultFreeRunsLead, QuietIsIdle};
-ghost use Rattle.session_completion.specs.Finish.{FinishEnds};
+ghost use Rattle.session_completion.specs.Finish.{UploadFinishEnds};
 ghost use Rattle.session_completion.specs.FinishedRuns.{FinishAloneIsLeft, FinishCompletes};
 ghost use Rattle.session_completion.specs.FinishedRuns.{FinishLeavesPower, LastFinishIsReached};
-ghost use Rattle.session_completion.specs.GoodRequests.{GoodLoadsLeadOn, RequestsAreRead};
+ghost use Rattle.session_completion.specs.GoodRequests.{GoodLoadsLeadOn, UploadRequestsAreRead};
 ghost use Rattle.session_completion.specs.GoodUploads.{GoodUploadsComplete};
 ghost use Rattle.session_completion.specs.Laws.{AllComeOut, FewAreAhead, LastIsDone};
 ghost use Rattle.session_completion.specs.Laws.{LastWasPosted, NextComesAgain, NextMoves};
@@ -62,7 +63,7 @@ pub fn a_run_stands_where_a_clean_one_stands()
 /// undelivered: deliveries in their order and ticks in turn lead to where the upload is completed
 /// and its loads are installed.
 pub fn finish_comes_to_an_end()
-    ensures { FinishEnds }
+    ensures { UploadFinishEnds }
 {
     check_sum_laws();
 }
@@ -70,7 +71,7 @@ pub fn finish_comes_to_an_end()
 /// The rows of an upload of good loads go well.
 pub fn good_uploads_go_well()
     // Its protocol files can be exchanged, and each end reads in them what the other wrote.
-    ensures read { RequestsAreRead }
+    ensures read { UploadRequestsAreRead }
     // Row after row it goes on to its last, with as many transfers as there are ports for.
     ensures lead_on { GoodLoadsLeadOn }
 {
@@ -118,8 +119,8 @@ pub fn a_last_finish_is_left()
 
 /// So a fault-free run completes that is left to a script's last `finish`: what a `finish` gives is
 /// that of both ends and of what was posted. The upload is completed, the run is quiet, and on the
-/// target are the loads that were asked for, with the bytes of the media set's files, and then those
-/// that are kept of what was active before.
+/// target are the loads that were asked for, with the bytes of the media set's files, and then
+/// those that are kept of what was active before.
 pub fn a_run_left_to_finish_completes()
     ensures { FinishCompletes }
 {

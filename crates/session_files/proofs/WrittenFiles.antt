@@ -7,14 +7,14 @@ use Rattle.std.proofs.lemmas.List.Elements.{All-nil, All-cons}
 use Rattle.load_base.specs.Host.{longest_file}
 use Rattle.load_base.specs.Text.{IsText}
 use Rattle.field_grammar.specs.Fields.{number_bytes}
-use Rattle.field_grammar.specs.NumberLaws.{length_number_bytes}
-use Rattle.field_grammar.specs.WrittenLaws.{at_most_each}
-use Rattle.part_number.specs.VerdictLaws.{part_size}
+use Rattle.field_grammar.proofs.NumberLemmas.{length_number_bytes}
+use Rattle.field_grammar.proofs.WrittenLemmas.{at_most_each}
+use Rattle.part_number.proofs.VerdictLemmas.{part_size}
 use Rattle.load_protocol_files.specs.Files.{IsFileOf, file_fields}
 use Rattle.load_protocol_files.specs.Pieces.{counted_fields, ratio_digits}
 use Rattle.load_protocol_files.specs.Lci.{LciSpells, lci_fields}
 use Rattle.load_protocol_files.specs.Lcl.{HardwareView, InstalledFits, IsWritableLcl, LclSpells, LclView, hardware_fields, hardware_view, installed_fields, lcl_fields}
-use Rattle.load_protocol_files.specs.LclLaws.{hardware_size, installed_size, lcl_size}
+use Rattle.load_protocol_files.specs.Laws.Lcl.{hardware_size, installed_size, lcl_size}
 use Rattle.load_protocol_files.specs.Lcs.{LcsSpells, lcs_fields}
 use Rattle.load_protocol_files.specs.Lui.{LuiSpells, lui_fields}
 use Rattle.load_protocol_files.specs.Lus.{LoadStatusFits, LusFits, LusSpells, LusView, counts_fields, load_status_fields, lus_fields, progress_fields}

@@ -18,6 +18,7 @@ pub fn file_name(hw: &Ident, pos: &Ident, kind: FileKind) -> Name
     let bytes = name_bytes(hw.as_slice(), pos.as_slice(), kind);
     match Name::read(bytes.as_slice()) {
         Ok(name) => name,
+        // The names of a session's files are names.
         Err(_) => unreachable!(),
     }
 }
@@ -36,7 +37,7 @@ fn name_bytes(hw: &[u8], pos: &[u8], kind: FileKind) -> ArrayVec<u8, MOST_BYTES>
     bytes
 }
 
-// Adds bytes, for which there is room.
+/// Adds bytes, for which there is room.
 fn put(bytes: &mut ArrayVec<u8, MOST_BYTES>, more: &[u8])
     requires { length bytes.old.items + length more.now ≤ 45 }
     ensures { bytes.new.items ≡ bytes.old.items ++ more.now }

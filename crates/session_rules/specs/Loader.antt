@@ -22,7 +22,7 @@ use Rattle.session_rules.specs.declared.outcome.Outcome.{Outcome}
 use Rattle.session_rules.specs.declared.outcome.Outcome.TheVariants.{Completed, GaveUp, PeerError, NotOnMedia, TooMany, Replaced, PortsSpent}
 use Rattle.session_rules.specs.Buffers.{Buffer, empty_buffer, buffered_more}
 use Rattle.session_rules.specs.FileNames.{file_name}
-use Rattle.session_rules.specs.LoaderRows.{LoaderRow, Reads_lci, Reads_lui, Writes_lur, Turn, Goes_on, Comes_to, first_row, row_after, kind_taken, serves_files, file_turn}
+use Rattle.session_rules.specs.LoaderRows.{LoaderRow, Reads_lci, Reads_lui, Writes_lur, RowTurn, Goes_on, Comes_to, first_row, row_after, kind_taken, serves_files, file_turn}
 use Rattle.session_rules.specs.MediaFiles.{Media, wanted_of}
 use Rattle.session_rules.specs.Reports.{lur_file}
 
@@ -147,7 +147,7 @@ next_decision v heard more (Some role) =
     else record { moves = heard ++ Stops ∷ []; change = Ends PortsSpent more }
 
 -- a transfer is over
-abbrev pub turn_decision : EndView → LoaderSession → List Move → (more : List ℕ) → Turn → LoaderDecision
+abbrev pub turn_decision : EndView → LoaderSession → List Move → (more : List ℕ) → RowTurn → LoaderDecision
 turn_decision v s heard more Goes_on = next_decision v heard more (row_request v.asks_size s.start (row_after s.row))
 turn_decision v s heard more (Comes_to outcome) = record { moves = heard ++ Stops ∷ []; change = Ends outcome more }
 

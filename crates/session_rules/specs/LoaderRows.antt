@@ -64,9 +64,9 @@ serves_files row = false
 
 -- ---- what a file that arrived comes to
 
-pub data Turn : Type 0 where
-  Goes_on : Turn  -- the row is finished
-  Comes_to : Outcome → Turn  -- the session ends
+pub data RowTurn : Type 0 where
+  Goes_on : RowTurn  -- the row is finished
+  Comes_to : Outcome → RowTurn  -- the session ends
 
 -- the offset of a fault; that of a length is 0 and that of a version 4
 abbrev pub fault_offset : FileFault → ℕ
@@ -80,41 +80,41 @@ fault_offset (faults.Part offset fault) = offset
 fault_offset (faults.Text offset fault) = offset
 fault_offset faults.Memory = 0
 
-abbrev pub bad_file : FileKind → (offset : ℕ) → Turn
+abbrev pub bad_file : FileKind → (offset : ℕ) → RowTurn
 bad_file kind offset = Comes_to (BadFile kind offset)
 
 -- an LCI or LUI: the operation is accepted or denied
-abbrev pub answered : FileKind → (status : ℕ) → (text : List ℕ) → Turn
+abbrev pub answered : FileKind → (status : ℕ) → (text : List ℕ) → RowTurn
 answered kind status text = if status == accepted then Goes_on else if status == denied then Comes_to (Denied text) else bad_file kind 6
 
 -- an LCS or LUS: the operation goes on where it has this status, or was stopped; the status stands at an offset
-abbrev pub reported : (expected : ℕ) → FileKind → (offset status : ℕ) → (text : List ℕ) → Turn
+abbrev pub reported : (expected : ℕ) → FileKind → (offset status : ℕ) → (text : List ℕ) → RowTurn
 reported expected kind offset status text =
     if status == expected then Goes_on else if status == stopped then Comes_to (TargetStopped text) else bad_file kind offset
 
-abbrev pub lci_turn : Result Lci FileFault → Turn
+abbrev pub lci_turn : Result Lci FileFault → RowTurn
 lci_turn (Ok v) = answered kinds.Lci v.status v.description
 lci_turn (Err fault) = bad_file kinds.Lci (fault_offset fault)
 
-abbrev pub lui_turn : Result Lui FileFault → Turn
+abbrev pub lui_turn : Result Lui FileFault → RowTurn
 lui_turn (Ok v) = answered kinds.Lui v.status v.description
 lui_turn (Err fault) = bad_file kinds.Lui (fault_offset fault)
 
-abbrev pub lcs_turn : Result Lcs FileFault → Turn
+abbrev pub lcs_turn : Result Lcs FileFault → RowTurn
 lcs_turn (Ok v) = reported in_progress kinds.Lcs 8 v.status v.description
 lcs_turn (Err fault) = bad_file kinds.Lcs (fault_offset fault)
 
-abbrev pub lcl_turn : Result LclView FileFault → Turn
+abbrev pub lcl_turn : Result LclView FileFault → RowTurn
 lcl_turn (Ok v) = Comes_to Completed
 lcl_turn (Err fault) = bad_file kinds.Lcl (fault_offset fault)
 
 -- the LUS before the request
-abbrev pub first_lus_turn : Result LusView FileFault → Turn
+abbrev pub first_lus_turn : Result LusView FileFault → RowTurn
 first_lus_turn (Ok v) = reported accepted kinds.Lus 6 v.status v.description
 first_lus_turn (Err fault) = bad_file kinds.Lus (fault_offset fault)
 
 -- a later one
-abbrev pub later_lus_turn : Result LusView FileFault → Turn
+abbrev pub later_lus_turn : Result LusView FileFault → RowTurn
 later_lus_turn (Ok v) = if v.status == completed then Comes_to Completed else reported in_progress kinds.Lus 6 v.status v.description
 later_lus_turn (Err fault) = bad_file kinds.Lus (fault_offset fault)
 
@@ -128,7 +128,7 @@ kind_received Takes_lus = kinds.Lus
 kind_received Writes_lur = kinds.Lur
 kind_received Serves_files = kinds.Lus
 
-abbrev pub bytes_turn : LoaderRow → List ℕ → Turn
+abbrev pub bytes_turn : LoaderRow → List ℕ → RowTurn
 bytes_turn Reads_lci bytes = lci_turn (answer lci bytes)
 bytes_turn Takes_lcs bytes = lcs_turn (answer lcs bytes)
 bytes_turn Takes_lcl bytes = lcl_turn (answer lcl bytes)
@@ -138,5 +138,5 @@ bytes_turn Writes_lur bytes = Goes_on
 bytes_turn Serves_files bytes = later_lus_turn (answer lus bytes)
 
 -- a file that arrived whole in a row; its length is tested first
-unfoldable pub file_turn : LoaderRow → Buffer → Turn
+unfoldable pub file_turn : LoaderRow → Buffer → RowTurn
 file_turn row b = if is_too_long b then bad_file (kind_received row) buffer_size else bytes_turn row b.prefix

@@ -5,24 +5,24 @@ use Rattle.session_rules.specs.TargetRows.{Reads_file, RowView, WholeRow, Writes
 use Rattle.session_rules.specs.Uploads.{next_name}
 
 -- the side reads the file of this name
-abbrev pub ReadsFile : List ℕ → Role → Type 0
-ReadsFile next (Reads name options) = name ≡ next
-ReadsFile next role = ⊥
+abbrev pub RoleReads : List ℕ → Role → Type 0
+RoleReads next (Reads name options) = name ≡ next
+RoleReads next role = ⊥
 
 abbrev pub ReadsNothing : Role → Type 0
 ReadsNothing (Reads name options) = ⊥
 ReadsNothing role = ⊤
 
 -- the side asked to write a file
-abbrev pub WritesFile : Role → Type 0
-WritesFile (Writes name options file) = ⊤
-WritesFile role = ⊥
+abbrev pub RoleWrites : Role → Type 0
+RoleWrites (Writes name options file) = ⊤
+RoleWrites role = ⊥
 
 -- the transfer is the one that the row asks for: a file that is read has the next name, and no other row reads; progress is
 -- written
 abbrev pub IsOfView : RowView → Role → Type 0
-IsOfView (Reads_file u) role = ReadsFile (next_name u) role
-IsOfView (Writes_progress u) role = WritesFile role
+IsOfView (Reads_file u) role = RoleReads (next_name u) role
+IsOfView (Writes_progress u) role = RoleWrites role
 IsOfView row role = ReadsNothing role
 
 abbrev pub IsOfRow : WholeRow → Role → Type 0

@@ -91,7 +91,7 @@ pub fn one_session_for_each_start()
 
 /// Whatever reaches a side, it gets only the packet that came, serves only a request that came, and
 /// asks for the files of its operations. So where the other side posted what comes, both sides stay
-/// as `transfer_end::laws::what_comes_was_sent` asks. `specs/FairLaws.antt` says the same to
+/// as `transfer_end::laws::what_comes_was_sent` asks. `proofs/FairLemmas.antt` says the same to
 /// proofs.
 pub fn both_sides_stay_fair()
     ensures loader_moves { LoaderMovesFit }

@@ -33,7 +33,8 @@ pub enum Reason {
     FileCrc { file: u16, said: u16, found: u16 },
     /// A8: a load has another CRC-32 than its header says.
     LoadCrc { said: u32, found: u32 },
-    /// A9: the loads, at the last header with those that are kept, and their manifest don't fit the bank.
+    /// A9: the loads, at the last header with those that are kept, and their manifest don't fit the
+    /// bank.
     BankFull { need: u64, have: u32 },
     /// A10: the active configuration has the last sequence number.
     SequenceSpent,

@@ -6,7 +6,7 @@ ghost use Rattle.load_header.specs.Header.{header_view, hardware_at_view};
 ghost use Rattle.shown_files.specs.HeaderText.{shown_header, head_lines, hardware_line};
 ghost use Rattle.shown_files.specs.HeaderText.{position_line, position_lines, file_line};
 ghost use Rattle.shown_files.specs.HeaderText.{header_crc_line, load_crc_line};
-ghost use Rattle.printed_text.specs.Lines.{line, hex_16, hex_32};
+ghost use Rattle.printed_text.specs.Lines.{line, hex_16};
 
 use crate::user::put_user;
 use load_base::{Bytes, NoMemory, Text};
@@ -160,7 +160,7 @@ fn put_file(alloc: Global, out: &mut Bytes, kind: &[u8], file: &FileEntry) -> Re
     put_line(out, b" ", file.part.as_slice())
 }
 
-// The sum that the reader of the header has tested.
+/// The sum that the reader of the header has tested.
 #[tactic(auto, unfolding(crate::specs::HeaderText::header_crc_line))]
 fn put_header_crc(out: &mut Bytes, end: &[u8]) -> Result<(), NoMemory>
     ensures { OnOk result (out.new.items ≡ out.old.items ++ header_crc_line end.now) }

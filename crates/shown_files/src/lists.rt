@@ -1,5 +1,5 @@
 //! The fields of the lists of a media set, as they are shown.
-ghost use Rattle.std.specs.Prelude.{◌≡◌, ◌∷◌, ◌++◌, [], codes, length, map, OnOk, IfOk};
+ghost use Rattle.std.specs.Prelude.{◌≡◌, ◌∷◌, ◌++◌, [], map, OnOk, IfOk};
 ghost use Rattle.std.specs.List.{flat_map};
 ghost use Rattle.std.specs.Fmt.{decimal};
 ghost use Rattle.media_lists.specs.Files.{files_list_view};
@@ -114,7 +114,7 @@ fn put_file(alloc: Global, out: &mut Bytes, file: &ListedFile) -> Result<(), NoM
     put_file_crc(out, file.crc16)
 }
 
-// The check sum at the end of a file's line.
+/// The check sum at the end of a file's line.
 fn put_file_crc(out: &mut Bytes, sum: u16) -> Result<(), NoMemory>
     ensures { OnOk result (out.new.items ≡ out.old.items ++ (32 ∷ hex_16 sum ++ 10 ∷ [])) }
 {
@@ -159,7 +159,7 @@ fn put_load_line(alloc: Global, out: &mut Bytes, load: &LoadEntry) -> Result<(),
     )
 }
 
-// Two numbers at the end of a line, each after a space.
+/// Two numbers at the end of a line, each after a space.
 fn put_two_numbers(alloc: Global, out: &mut Bytes, first: u64, second: u64) -> Result<(), NoMemory>
     ensures { OnOk result
         (out.new.items ≡ out.old.items ++ (32 ∷ decimal first ++ 32 ∷ decimal second ++ 10 ∷ [])) }

@@ -1,5 +1,5 @@
 //! The fields of the protocol files, as they are shown.
-ghost use Rattle.std.specs.Prelude.{◌≡◌, ◌∷◌, ◌++◌, [], codes, length, map, OnOk, IfOk};
+ghost use Rattle.std.specs.Prelude.{◌≡◌, ◌++◌, map, OnOk, IfOk};
 ghost use Rattle.std.specs.List.{flat_map};
 ghost use Rattle.load_protocol_files.specs.Lur.{lur_view};
 ghost use Rattle.load_protocol_files.specs.Lus.{lus_view};

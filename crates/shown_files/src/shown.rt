@@ -1,10 +1,8 @@
 //! A file as it is shown.
-ghost use Rattle.std.specs.Prelude.{◌≡◌, ◌⊎◌, ◌≢◌, IfOk, List, ℕ};
+ghost use Rattle.std.specs.Prelude.{IfOk};
 ghost use Rattle.field_grammar.specs.Grammar.{Fault};
 ghost use Rattle.load_header.specs.Header.{header};
-ghost use Rattle.load_header.specs.HeaderFaultText.{header_fault_text};
 ghost use Rattle.load_header.specs.declared.fault.HeaderFault.TheVariants as headers;
-ghost use Rattle.load_protocol_files.specs.FaultTexts.{file_fault_text};
 ghost use Rattle.load_protocol_files.specs.declared.fault.FileFault.TheVariants as files;
 ghost use Rattle.shown_files.specs.declared.kind.ShownKind.TheVariants as kinds;
 ghost use Rattle.shown_files.specs.Shown.{IsShown};

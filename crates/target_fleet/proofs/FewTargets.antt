@@ -9,7 +9,7 @@ use Rattle.batch_lists.specs.BatchFields.{BatchSpells}
 use Rattle.batch_lists.specs.declared.batches.BatchEntry.{BatchEntry}
 use Rattle.batch_lists.specs.declared.fault.BatchFault.{BatchFault}
 use Rattle.field_grammar.specs.Answers.{answer}
-use Rattle.field_grammar.specs.ExactLaws.{answer-fault}
+use Rattle.field_grammar.proofs.ExactLemmas.{answer-fault}
 use Rattle.field_grammar.specs.Grammar.{IsBytes, IsDecided, Spelled}
 use Rattle.media_check.specs.Batches.{batch_found, batch_kept, batch_of_entry, first_batch, read_as_batch}
 use Rattle.media_check.specs.Kept.{ListedFileView, entries_of, found_as, found_in}

@@ -12,7 +12,7 @@ use Rattle.upload_replay.specs.Endings.{FailsToBegin, HoldsSome}
 use Rattle.upload_replay.specs.declared.outcome.DriveFault.{DriveFault}
 use Rattle.upload_replay.specs.declared.outcome.DriveFault.TheVariants as faults
 use Rattle.target_fleet.specs.Boots.{AllBoot, BootsNext, BootsUnit, FailsAt, FailsToBoot, fleet_fault_of}
-use Rattle.target_fleet.specs.Units.{AllDisks, AllOnlyRead, ChangesAt, ReadsAt}
+use Rattle.target_fleet.specs.Units.{AllDisks, AllOnlyRead, ChangesAt, ReadsUnitDisk}
 use Rattle.target_fleet.specs.declared.outcome.FleetFault.{FleetFault}
 use Rattle.target_fleet.specs.declared.outcome.FleetFault.TheVariants as fleets
 use Rattle.target_fleet.proofs.Indexed.{changed_read, more_read, same_there, set_length, set_other, set_same}
@@ -72,7 +72,7 @@ module _ {K : Type 0} (state : K → DiskState) where
 
   -- what a boot on one disk does to all
   pub reads_one : (index : ℕ) (before after : K) (old new : List K) → ChangesAt index before after old new
-      → OnlyReads (state before) (state after) → ReadsAt state index old new
+      → OnlyReads (state before) (state after) → ReadsUnitDisk state index old new
   reads_one index before after old new changes reads = record {
     same = ap length changes.kept ∙ set_length old index after;
     others = λ i apart. ap (λ (xs : List K). slice_get xs i) changes.kept ∙ set_other old index i after apart;
@@ -134,7 +134,7 @@ module _ {R K : Type 0} (state : K → DiskState) (may_say : R → LoadHeader �
     disk_runs running k e = running index k (sym (sofar.rest index (omega arith)) ∙ e)
 
     pub booted_more : BootsNext state may_say interlock shown index drivers drivers_then mid new
-        → ReadsAt state index mid new → BootedSoFar (index + 1) drivers_then old new
+        → ReadsUnitDisk state index mid new → BootedSoFar (index + 1) drivers_then old new
     booted_more next reads = record {
       many = ap length next.more ∙ counted drivers next.driver ∙ ap suc sofar.many ∙ omega arith;
       boots = λ i d before after e f g. by i d before after f g (more_read drivers i next.driver d (ap (λ (ds : List (DriverState R)). slice_get ds i) (sym next.more) ∙ e));
@@ -175,5 +175,5 @@ module _ {R K : Type 0} (state : K → DiskState) (may_say : R → LoadHeader �
     pub boot_fails : (fault : FleetFault) → FailsAt state index fault mid new → FailsToBoot state fault old new
     boot_fails fault fails = record { index = index; fails = fails_since state index fault old mid new (sofar.rest index (omega arith)) fails; stood = sofar.stood }
 
-    pub reads_on : ReadsAt state index mid new → AllOnlyRead state old new
+    pub reads_on : ReadsUnitDisk state index mid new → AllOnlyRead state old new
     reads_on reads = all_read_then state old mid new reads.same sofar.reads reads.reads

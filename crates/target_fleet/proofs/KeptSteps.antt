@@ -14,7 +14,7 @@ use Rattle.fleet_trace.specs.Merging.{Batch_came, Stepped, Unit_stepped, is_of_u
 use Rattle.fleet_trace.specs.declared.trace.FleetStep.{FleetStep}
 use Rattle.fleet_trace.proofs.Merging.{merged_again, merged_goes, order_of_merged, own_of_merged, same_merged}
 use Rattle.load_base.specs.Listed.{Listed}
-use Rattle.upload_replay.specs.OrderLaws.{posts_by_steps}
+use Rattle.upload_replay.proofs.OrderLemmas.{posts_by_steps}
 use Rattle.upload_replay.specs.Texts.{is_post}
 use Rattle.target_fleet.specs.FleetTexts.{posted_at}
 use Rattle.target_fleet.specs.Merges.{AreUnits, HaveOwnSteps, KeepsSteps, MergesAll, own_steps, steps_to_end, steps_told}

@@ -16,7 +16,7 @@ use Rattle.replay_rules.specs.BothEnds.{Setting}
 use Rattle.replay_rules.specs.BothEnds.{target_at}
 use Rattle.replay_rules.specs.Histories.{may_be_active}
 use Rattle.replay_rules.specs.Promises.{HoldsOneOf}
-use Rattle.replay_turns.specs.StepLaws.{one_left, one_of_either, one_right}
+use Rattle.replay_turns.proofs.StepLemmas.{one_left, one_of_either, one_right}
 use Rattle.upload_replay.specs.Armings.{ArmsAsGiven}
 use Rattle.upload_replay.specs.Drivers.{DriverState, IsLinked}
 use Rattle.upload_replay.specs.Endings.{LeavesUnit}

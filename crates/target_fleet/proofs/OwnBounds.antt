@@ -18,7 +18,7 @@ use Rattle.fleet_trace.proofs.LastFleetFinish.{each_is_left_to_own}
 use Rattle.replay_rules.specs.BothEnds.{Setting}
 use Rattle.replay_rules.specs.Changes.{AllCarryBytes}
 use Rattle.replay_rules.specs.Promises.{IsNoEnd, IsTrace}
-use Rattle.replay_rules.specs.Runs.{Follows, plan_at, scene_at}
+use Rattle.replay_rules.specs.Runs.{TraceFollows, plan_at, scene_at}
 use Rattle.target_fleet.specs.Bounds.{FinishEndsAtUnit}
 use Rattle.target_fleet.specs.Runs.{fleet_waiting}
 use Rattle.target_fleet.proofs.OwnFinish.{waits_as}
@@ -33,7 +33,7 @@ module _ (set : Setting) (script : List Line) (steps : List Step) (left : plan_a
   next_there more (inl begins) = (sides.Loader, ap (next_turn (scene_at set (more ++ steps))) begins)
   next_there more (inr (turned, on)) = (turned, ap (next_turn (scene_at set (more ++ steps))) on)
 
-  walk : (more : List Step) → Follows set script (more ++ steps) → AllByRecursion (λ (s : Step). IsNoEnd s.given) (more ++ steps) → AllOfFinish set more steps × IsAtFinish (plan_at set script (more ++ steps))
+  walk : (more : List Step) → TraceFollows set script (more ++ steps) → AllByRecursion (λ (s : Step). IsNoEnd s.given) (more ++ steps) → AllOfFinish set more steps × IsAtFinish (plan_at set script (more ++ steps))
   walk [] follows goes = (tt, inl left)
   walk (s ∷ more) follows goes = by (walk more follows.1 goes.1)
     where
@@ -57,6 +57,6 @@ unit_finish_ends ends units sets asks script steps unit follows trace carries le
     (each_is_left_to_own units (fleet_waiting units sets) asks script steps whole follows unit least most) in
     let own_trace : IsTrace (sets unit) (ended_step ∷ (more ++ before)) = subst (IsTrace (sets unit)) own.split trace in
     let own_carries : AllCarryBytes (ended_step ∷ (more ++ before)) = subst AllCarryBytes own.split carries in
-    let own_follows : Follows (sets unit) (own_script before ++ Finish ∷ []) (ended_step ∷ (more ++ before)) = subst (Follows (sets unit) (own_script before ++ Finish ∷ [])) own.split own.follows in
+    let own_follows : TraceFollows (sets unit) (own_script before ++ Finish ∷ []) (ended_step ∷ (more ++ before)) = subst (TraceFollows (sets unit) (own_script before ++ Finish ∷ [])) own.split own.follows in
     ends (sets unit) before more (record { due = own_trace.due.1; noted = own_trace.noted.1; carries = own_carries.1 })
     (walk (sets unit) (own_script before ++ Finish ∷ []) before own.left more own_follows.1 own_trace.ends.1).0

@@ -10,7 +10,7 @@ use Rattle.fleet_trace.specs.FleetTraces.{Of_batch, Of_unit, StepOfFleet, steps_
 use Rattle.load_header.specs.declared.header.LoadHeader.{LoadHeader}
 use Rattle.media_check.specs.Sets.{SetView}
 use Rattle.replay_rules.specs.BothEnds.{Setting}
-use Rattle.replay_turns.specs.PowerLaws.{rose_joined}
+use Rattle.replay_turns.proofs.PowerLemmas.{rose_joined}
 use Rattle.replay_turns.specs.Powers.{ArmsBy, RoseBy, disk_stops, stops_in}
 use Rattle.upload_replay.specs.Armings.{ArmsAsGiven}
 use Rattle.upload_replay.specs.Drivers.{DriverState, HoldsUnit}

@@ -20,7 +20,7 @@ use Rattle.loader_machine.specs.Machine.{LoaderState, media_of, session_view}
 use Rattle.media_check.specs.Sets.{SetView}
 use Rattle.replay_rules.specs.BothEnds.{Setting, target_at}
 use Rattle.replay_rules.specs.FirstOrGood.{ActiveIsFirstOrGood}
-use Rattle.replay_turns.specs.PowerLaws.{rose_not, rose_on}
+use Rattle.replay_turns.proofs.PowerLemmas.{rose_not, rose_on}
 use Rattle.replay_turns.specs.Powers.{RoseBy, disk_stops}
 use Rattle.replay_rules.specs.Ties.{kept_by}
 use Rattle.replay_turns.specs.Turns.{RunsWhileUp, target_kept}

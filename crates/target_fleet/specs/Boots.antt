@@ -1,6 +1,6 @@
 -- The first boots of a fleet's units (docs/EXCHANGE.md, "Fleets").
 use Rattle.std.specs.Prelude.{◌≡◌, ℕ, ◌+◌, ◌<◌, List, [], ◌∷◌, ◌++◌, Bool, Some, slice_get}
-use Rattle.accept_rules.specs.Interlocks.{Follows}
+use Rattle.accept_rules.specs.Interlocks.{FollowsAccepts}
 use Rattle.accept_rules.specs.Permissions.{Accepts}
 use Rattle.accept_rules.specs.declared.kept.KeptLoad.{KeptLoad}
 use Rattle.bank_store.specs.Fits.{LosesOnlyWork}
@@ -66,7 +66,7 @@ pub record BootsUnit {R K : Type 0} (state : K → DiskState) (may_say : R → L
   pub held : (set : Setting) (image : Image) → IsSet may_say set interlock shown image
       → (state old).reads ≡ Some image → LosesOnlyWork (state old)
       → HoldsUnit set (state old).clock [] d (state new)
-  pub lives : (accepts : Accepts) → Follows may_say interlock accepts → LivesOn may_say accepts d
+  pub lives : (accepts : Accepts) → FollowsAccepts may_say interlock accepts → LivesOn may_say accepts d
   pub stood : HoldsSome (state old)
 
 -- each unit came up so

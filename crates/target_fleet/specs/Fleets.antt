@@ -1,6 +1,6 @@
 -- What a fleet comes to, and why there is no run of one (docs/EXCHANGE.md, "Fleets").
 use Rattle.std.specs.Prelude.{◌≡◌, ◌⊎◌, ℕ, ◌+◌, ◌<◌, List, ◌∷◌, ◌++◌, length, Bool, true, is_some, map, option_map, slice_get, Option, Some}
-use Rattle.accept_rules.specs.Interlocks.{Follows}
+use Rattle.accept_rules.specs.Interlocks.{FollowsAccepts}
 use Rattle.accept_rules.specs.Permissions.{Accepts, AcceptsPermitted}
 use Rattle.accept_rules.specs.declared.kept.KeptLoad.{KeptLoad}
 use Rattle.bank_store.specs.Fits.{LosesOnlyWork}
@@ -70,7 +70,7 @@ pub record HoldsInFleet (unit : ℕ) (set : Setting) (steps : List StepOfFleet) 
 pub record EndsInFleet {R K : Type 0} (state : K → DiskState) (may_say : R → LoadHeader → List KeptLoad → Bool → Type 0) (rule : R) (shown : SetView) (unit : ℕ) (steps : List StepOfFleet) (end : UnitEnd) (old new : K) : Type 0 where
   pub stood : HoldsSome (state old)
   pub loader : IsLoadersRun (media_of shown) (steps_of_unit unit steps) (map session_view end.sessions.items)
-  pub lives : (accepts : Accepts) → Follows may_say rule accepts → LivesThrough (media_of shown) accepts (steps_of_unit unit steps)
+  pub lives : (accepts : Accepts) → FollowsAccepts may_say rule accepts → LivesThrough (media_of shown) accepts (steps_of_unit unit steps)
   pub stops : CountsStops (steps_of_unit unit steps) end.standing (state old) (state new)
   pub standing : HoldsStanding end.standing (state new)
   pub run : (set : Setting) (image : Image) → IsSet may_say set rule shown image → (state old).reads ≡ Some image
@@ -92,7 +92,7 @@ AllEndInFleet {R} {K} state may_say rule shown drive old new =
 
 -- There is no run: a unit didn't come up at first, and those before it hold a configuration. Nothing was written, and nothing
 -- happened.
-pub record FailsAtFirst {K : Type 0} (state : K → DiskState) (fault : FleetFault) (began link : FleetLinkState) (old new : List K) : Type 0 where
+pub record FleetFailsAtFirst {K : Type 0} (state : K → DiskState) (fault : FleetFault) (began link : FleetLinkState) (old new : List K) : Type 0 where
   pub fails : FailsToBoot state fault old new
   pub untouched : link ≡ began
   pub only_reads : AllOnlyRead state old new
@@ -119,7 +119,7 @@ FailsLater {K} state fleets.Memory old new = AllDisks (λ (k : K). HoldsSome (st
 
 -- why there is no run of a fleet
 abbrev pub IsFleetRefusal : {K : Type 0} → (state : K → DiskState) → FleetFault → (began link : FleetLinkState) → (old new : List K) → Type 0
-IsFleetRefusal state fault began link old new = FailsAtFirst state fault began link old new ⊎ FailsLater state fault old new
+IsFleetRefusal state fault began link old new = FleetFailsAtFirst state fault began link old new ⊎ FailsLater state fault old new
 
 -- ---- what is left
 

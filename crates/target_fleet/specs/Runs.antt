@@ -1,6 +1,6 @@
 -- A fleet as it runs on its link (docs/EXCHANGE.md, "Fleets").
 use Rattle.std.specs.Prelude.{◌≡◌, ℕ, ◌+◌, nat_le, ◌&&◌, List, [], ◌∷◌, ◌++◌, length, map, reverse, slice_get, Bool, true, false, Option, Some, None, option_map, if◌then◌else◌}
-use Rattle.accept_rules.specs.Interlocks.{Follows}
+use Rattle.accept_rules.specs.Interlocks.{FollowsAccepts}
 use Rattle.accept_rules.specs.Permissions.{Accepts}
 use Rattle.accept_rules.specs.declared.kept.KeptLoad.{KeptLoad}
 use Rattle.bank_store.specs.Fits.{LosesOnlyWork}
@@ -100,7 +100,7 @@ pub record RunsInFleet {R K : Type 0} (state : K → DiskState) (may_say : R →
   pub stood : HoldsSome (state old)
   pub stops : RoseBy (disk_stops d.steps) (state old).faults (state new).faults
   pub arms : ArmsAsGiven [] (happenings_of d.steps) (state old) (state new)
-  pub lives : (accepts : Accepts) → Follows may_say rule accepts → LivesOn may_say accepts d
+  pub lives : (accepts : Accepts) → FollowsAccepts may_say rule accepts → LivesOn may_say accepts d
   pub stands : (set : Setting) (image : Image) → IsSet may_say set rule shown image → (state old).reads ≡ Some image → StandsOn may_say set d
   pub tied : (set : Setting) (image : Image) → IsSet may_say set rule shown image → (state old).reads ≡ Some image
       → NeverBoots d.steps → IsTiedTo set d

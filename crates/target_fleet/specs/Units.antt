@@ -28,7 +28,7 @@ abbrev pub AllOnlyRead : {K : Type 0} → (state : K → DiskState) → (old new
 AllOnlyRead state old new = AllBetween (λ i before after. OnlyReads (state before) (state after)) old new
 
 -- the disk of this index was only read, and the others are as they were
-pub record ReadsAt {K : Type 0} (state : K → DiskState) (index : ℕ) (old new : List K) : Type 0 where
+pub record ReadsUnitDisk {K : Type 0} (state : K → DiskState) (index : ℕ) (old new : List K) : Type 0 where
   pub same : length new ≡ length old
   pub others : (i : ℕ) → i ≢ index → slice_get new i ≡ slice_get old i
   pub reads : AllOnlyRead state old new

@@ -1,11 +1,11 @@
 //! Which upload of the running batch is asked next, and what a batch came to (docs/EXCHANGE.md,
 //! "Batches").
-ghost use Rattle.std.specs.Prelude.{◌≡◌, ◌+◌, ◌<◌, ◌≤◌, IfOk, IfSome, Some, length, map};
+ghost use Rattle.std.specs.Prelude.{◌≡◌, ◌+◌, ◌<◌, ◌≤◌, IfOk, IfSome, Some, length};
 ghost use Rattle.std.specs.Prelude.{option_map, slice_get};
-ghost use Rattle.batch_lists.specs.Batch.{batch_target_view, batch_view};
+ghost use Rattle.batch_lists.specs.Batch.{batch_view};
 ghost use Rattle.exchange_trace.specs.Happenings.{Upload_started, happening_view};
 ghost use Rattle.loader_machine.specs.Machine.{all_sessions, session_view};
-ghost use Rattle.media_check.specs.Sets.{batch_of, set_view};
+ghost use Rattle.media_check.specs.Sets.{set_view};
 ghost use Rattle.target_fleet.specs.Asking as spec;
 ghost use Rattle.target_fleet.specs.Asking.{end_in, end_of_running, least_unit_from};
 ghost use Rattle.target_fleet.specs.Asking.{next_in_batch, next_of_running, outcome_in, place_of};
@@ -26,8 +26,8 @@ use session_rules::Outcome;
 use std::alloc::Global;
 use upload_replay::Driver;
 
-/// The session of an upload that was asked: its unit, by its index, and which of the unit's sessions
-/// it is, from 0.
+/// The session of an upload that was asked: its unit, by its index, and which of the unit's
+/// sessions it is, from 0.
 #[derive(Clone, Copy)]
 pub(crate) struct Asked {
     pub(crate) index: usize,
@@ -51,7 +51,8 @@ pub(crate) enum LastAsked {
     Otherwise,
 }
 
-/// The upload that is asked next, if one may be: the index of its unit, and the target of the batch.
+/// The upload that is asked next, if one may be: the index of its unit, and the target of the
+/// batch.
 pub(crate) fn next_upload<'m, R: Rule>(
     media: &'m MediaSet,
     running: Option<Running>,

@@ -1,6 +1,7 @@
 //! The batches of a fleet's run: the running one, and those that ended (docs/EXCHANGE.md,
 //! "Batches").
-ghost use Rattle.std.specs.Prelude.{◌≡◌, ◌+◌, ◌<◌, [], IfSome, None, OnOk, Some, length, option_map};
+ghost use Rattle.std.specs.Prelude.{◌≡◌, ◌+◌, ◌<◌, [], IfSome, None, OnOk, Some, length};
+ghost use Rattle.std.specs.Prelude.{option_map};
 ghost use Rattle.media_check.specs.Sets.{set_view};
 ghost use Rattle.target_fleet.specs.Asking.{begun_batch, with_end_of};
 ghost use Rattle.target_fleet.specs.AskingCalls.{HaveFewTargets, IsAskedIn, IsAskedWithin};
@@ -16,18 +17,18 @@ use upload_replay::Driver;
 
 /// The running batch, if there is one, and what those before it came to.
 #[derive(Drop)]
-pub(crate) struct Batches {
+pub(crate) struct FleetBatches {
     pub(crate) running: Option<Running>,
     pub(crate) ended: List<BatchEnd>,
 }
 
-impl Batches {
+impl FleetBatches {
     /// There was none yet.
-    pub(crate) fn new(alloc: Global) -> Batches
+    pub(crate) fn new(alloc: Global) -> FleetBatches
         ensures running { result.running ≡ None }
         ensures ended { result.ended.items ≡ [] }
     {
-        Batches {
+        FleetBatches {
             running: None,
             ended: List::new(alloc),
         }

@@ -4,7 +4,7 @@ ghost use Rattle.bank_store.specs.DiskWrites.{IsRunning};
 ghost use Rattle.media_check.specs.Sets.{set_view};
 ghost use Rattle.target_fleet.specs.Boots.{AllBoot, BootsNext, FailsAt, FailsToBoot};
 ghost use Rattle.target_fleet.specs.Boots.{fleet_fault_of};
-ghost use Rattle.target_fleet.specs.Units.{AllDisks, AllOnlyRead, ReadsAt};
+ghost use Rattle.target_fleet.specs.Units.{AllDisks, AllOnlyRead, ReadsUnitDisk};
 
 use crate::outcome::FleetFault;
 use accept_rules::{Interlock, Rule};
@@ -59,7 +59,7 @@ fn boot_next<'m, K: Power, R: Rule>(
     ensures booted { OnOk result (BootsNext K.state R.may_say interlock.now (set_view media.now)
         index drivers.old.items drivers.new.items disks.old disks.new) }
     ensures refused { IfErr result (λ fault. FailsAt K.state index fault disks.old disks.new) }
-    ensures reads { ReadsAt K.state index disks.old disks.new }
+    ensures reads { ReadsUnitDisk K.state index disks.old disks.new }
 {
     match drivers.reserve(1) {
         Ok(()) => {}

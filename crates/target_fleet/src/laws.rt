@@ -22,8 +22,8 @@ pub fn a_fleets_last_finish_completes()
 {}
 
 /// The last `finish` of a fleet's script ends: each unit has no more happenings in it than a
-/// `finish` of its own, 183,503,421,556 and two for each datagram that is undelivered at the unit as
-/// it begins, whatever befell the others.
+/// `finish` of its own, 183,503,421,556 and two for each datagram that is undelivered at the unit
+/// as it begins, whatever befell the others.
 pub fn a_fleets_last_finish_ends()
     ensures { (units : ℕ) (sets : ℕ → Setting) (asks : FleetAsking) (script : List FleetLine)
         (steps : List StepOfFleet) (unit : ℕ)

@@ -98,6 +98,7 @@ fn put_unit(
     put_number_line(alloc, out, number)?;
     match &end.standing {
         Some(standing) => put_report(alloc, out, end.sessions.as_slice(), posted, standing),
+        // A fleet that has ended stands somewhere at each unit.
         None => unreachable!(),
     }
 }

@@ -15,7 +15,7 @@ ghost use Rattle.target_fleet.specs.Steps.{CanStep};
 ghost use Rattle.upload_replay.specs.Drivers.{DriverState};
 
 use crate::asking::{Asked, next_upload, start_of};
-use crate::batches::Batches;
+use crate::batches::FleetBatches;
 use crate::posting::post_all;
 use crate::stepped::Stepped;
 use crate::stepping::step_at;
@@ -40,7 +40,7 @@ pub(crate) struct Units<'m, R: Rule> {
     pub(crate) drivers: Vec<Driver<'m, R>>,
     /// What each step was of, in their order.
     pub(crate) order: Vec<Stepped>,
-    pub(crate) batches: Batches,
+    pub(crate) batches: FleetBatches,
 }
 
 impl<'m, R: Rule> Model for Units<'m, R> {
@@ -138,6 +138,7 @@ fn turn<K: Power, R: Rule>(
                 ask(link, disks, units, index as u8 + 1, target)?;
                 Ok(false)
             }
+            // The link gives it only where a unit has a target to ask for.
             None => unreachable!(),
         },
         Ok(FleetHappening::End) => Ok(true),
@@ -150,6 +151,7 @@ fn turn<K: Power, R: Rule>(
                     begin_batch(media, units, part)?;
                     Ok(false)
                 }
+                // Nothing else is left that a link gives.
                 None => unreachable!(),
             }
         }

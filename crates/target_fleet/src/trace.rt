@@ -15,8 +15,8 @@ use std::alloc::Global;
 use std::marker::Model;
 use upload_replay::count_posts;
 
-/// The trace of a fleet that came to its end. It is kept as the traces of its units, so that no line
-/// is moved before someone asks for the lines in their order.
+/// The trace of a fleet that came to its end. It is kept as the traces of its units, so that no
+/// line is moved before someone asks for the lines in their order.
 ///
 /// A contract sees it as its steps, the newest first.
 #[derive(Drop)]

@@ -1,8 +1,6 @@
 //! A whole run of a fleet.
 ghost use Rattle.std.specs.Prelude.{◌≡◌, [], ℕ, IfErr, IfOk, length};
 ghost use Rattle.bank_store.specs.DiskWrites.{IsRunning};
-ghost use Rattle.fleet_link.specs.FleetFollowed.{HasFollowedFleet};
-ghost use Rattle.fleet_trace.specs.FleetFollowing.{FollowsFleet};
 ghost use Rattle.media_check.specs.Sets.{set_view};
 ghost use Rattle.replay_rules.specs.BothEnds.{Setting};
 ghost use Rattle.target_fleet.specs.Fleets.{AllEndInFleet, AllLeaveGood, AsksInBatches, EndsFleet};
@@ -11,7 +9,7 @@ ghost use Rattle.target_fleet.specs.Leaves.{AllLeave};
 ghost use Rattle.target_fleet.specs.Runs.{AllStandOn, FollowsOnEach};
 ghost use Rattle.target_fleet.specs.Units.{AllDisks};
 
-use crate::batches::Batches;
+use crate::batches::FleetBatches;
 use crate::booting::boot_all;
 use crate::ending::{Ends, end_all};
 use crate::outcome::{FleetDrive, FleetFault};
@@ -68,6 +66,7 @@ pub fn fleet<K: Power, R: Rule>(
     the_configuration_changes_by_good_verdicts();
     // For the proof: there are eight units at most, and batches have few targets.
     link.units();
+    // For the proof: does nothing.
     media.files_are_bytes();
     batch_laws();
     let drivers = match boot_all(alloc, disks, media, interlock) {
@@ -78,7 +77,7 @@ pub fn fleet<K: Power, R: Rule>(
         alloc,
         drivers,
         order: Vec::new(alloc),
-        batches: Batches::new(alloc),
+        batches: FleetBatches::new(alloc),
     };
     match run_to_end(link, disks, media, &mut units) {
         Ok(()) => {}

@@ -14,7 +14,7 @@ use Rattle.tftp_link.specs.Answers.{NewsView, Nothing, Block, Last, Done, PeerEr
 use Rattle.exchange_trace.specs.declared.trace.Side.TheVariants as sides
 use Rattle.exchange_trace.specs.Happenings.{DatagramView}
 use Rattle.transfer_end.specs.Calls.{Makes}
-use Rattle.transfer_end.specs.CallLaws.{KeepsPorts, transfer_keeps}
+use Rattle.transfer_end.proofs.CallLemmas.{KeepsPorts, transfer_keeps}
 use Rattle.transfer_end.specs.Packets.{has_port, heard_answer, is_busy, is_fresh, may_repeat, transfer_moves}
 use Rattle.transfer_end.specs.Transfers.{Role}
 use Rattle.transfer_end.specs.Moves.{Asks, Move, Stops}
@@ -22,16 +22,16 @@ use Rattle.transfer_end.specs.Views.{EndView}
 use Rattle.session_rules.specs.declared.outcome.FileKind.{FileKind}
 use Rattle.session_rules.specs.declared.outcome.FileKind.TheVariants.{Lci, Lui, Lur}
 use Rattle.session_rules.specs.Contents.{AreKept, ContentsAreKept, SessionContents, TargetContents, contents_changed, contents_continued, reached, reached_last, session_kept}
-use Rattle.session_rules.specs.SoundLogLaws.{begins_active}
+use Rattle.session_rules.proofs.SoundLogLemmas.{begins_active}
 use Rattle.session_rules.specs.Target as Target
 use Rattle.session_rules.specs.Target.{TargetChange, TargetDecision, TargetSession, TargetView, in_row, is_over, next_decision, own_decision, own_name, read_decision, request_decision, row_request, session_turned, target_changed, tick_decision, turn_decision, view_turned, without_port, write_decision, write_in}
 use Rattle.session_rules.specs.TargetLog.{standing_in}
 use Rattle.session_rules.specs.TargetRows.{Arriving, Awaits_lur, Gives_denial, Gives_lci, Gives_lui, Over, Reads_file, RowMove, RowView, WholeRow, Writes_completion, Writes_lcl, Writes_lcs, Writes_progress, Writes_ready, Writes_stop, arriving_of, first_row, row_move, row_moved, row_view, view_moved, with_bytes}
 use Rattle.load_intake.specs.declared.down.Down.{Down}
 use Rattle.load_intake.specs.Contents.{AddsOldOrNew, BringsRow, BringsTo, HoldsRow, InstallsRow}
-use Rattle.load_intake.specs.ContentLaws.{adds_nothing, adds_same, beside_continued, both_add}
+use Rattle.load_intake.proofs.ContentLemmas.{adds_nothing, adds_same, beside_continued, both_add}
 use Rattle.target_machine.specs.Decisions.{end_with, following, with_live}
-use Rattle.target_machine.specs.DiskLaws.{quiet_contents}
+use Rattle.target_machine.proofs.DiskLemmas.{quiet_contents}
 use Rattle.target_machine.specs.Disks.{BringsContents, HoldsContents, IsAtRest, IsResting, KeepsDisk, change_heard, change_turned, live_arrived, live_row, whole_row_then}
 use Rattle.target_machine.proofs.Following.{answer_after}
 use Rattle.target_machine.proofs.Holding.{resting_holds}

@@ -12,7 +12,7 @@ use Rattle.accept_rules.specs.Permissions.{Accepts}
 use Rattle.session_rules.specs.declared.reason.Reason.TheVariants as reasons
 use Rattle.session_rules.specs.Target.{TargetSession, TargetView, active_in, in_row, is_over, later_reason, reason_in, row_request}
 use Rattle.session_rules.specs.TargetRows.{RowView, Gives_lci, Writes_lcs, Writes_lcl, Gives_lui, Gives_denial, Writes_ready, Awaits_lur, Reads_file, Writes_progress, Writes_stop, Writes_completion, Over}
-use Rattle.target_machine.specs.Decisions.{Enters, Keeps, TargetState, asked_by, asked_view, asking_moves, end_with, entered_view, entering_moves, in_next_row, is_asking, row_then}
+use Rattle.target_machine.specs.Decisions.{Enters, TargetKeeps, TargetState, asked_by, asked_view, asking_moves, end_with, entered_view, entering_moves, in_next_row, is_asking, row_then}
 use Rattle.target_machine.specs.Machine.{row_seen}
 use Rattle.target_machine.specs.Stages.{InstalledState, TurnsTo}
 use Rattle.target_machine.specs.declared.row.Row.{Row}
@@ -37,13 +37,13 @@ module _ {R : Type 0} (accepts : Accepts) (st now after : TargetState R) (error 
   x_is : x ≡ s
   x_is = some_one x s (sym live ∙ ap (λ (y : TargetState R). y.view.live) (sym e) ∙ kept)
 
-  as_decided : Keeps st after (in_next_row st.view turned) → Keeps now after (in_next_row now.view (row_then accepts now.view.active x error))
+  as_decided : TargetKeeps st after (in_next_row st.view turned) → TargetKeeps now after (in_next_row now.view (row_then accepts now.view.active x error))
   as_decided keeps =
-      subst (λ (y : TargetSession). Keeps now after (in_next_row now.view (row_then accepts now.view.active y error))) (sym x_is)
-      (subst (λ (y : TargetState R). Keeps y after (in_next_row y.view (row_then accepts y.view.active s error))) e keeps)
+      subst (λ (y : TargetSession). TargetKeeps now after (in_next_row now.view (row_then accepts now.view.active y error))) (sym x_is)
+      (subst (λ (y : TargetState R). TargetKeeps y after (in_next_row y.view (row_then accepts y.view.active s error))) e keeps)
 
   pub turns_row : (row : Row) → TurnsTo (Some row) turned old new → after.view.live ≡ Some (in_row (row_seen new.active.loads row)) → after.view.reason ≡ later_reason st.view.reason (reason_in (row_seen new.active.loads row))
-      → Keeps now after (in_next_row now.view (row_then accepts now.view.active x error))
+      → TargetKeeps now after (in_next_row now.view (row_then accepts now.view.active x error))
   turns_row row turns seen reason =
       as_decided (record {
         rule = rule;
@@ -54,7 +54,7 @@ module _ {R : Type 0} (accepts : Accepts) (st now after : TargetState R) (error 
       })
 
   pub ends_row : TurnsTo None turned old new → after.view.live ≡ None → after.view.reason ≡ st.view.reason
-      → Keeps now after (in_next_row now.view (row_then accepts now.view.active x error))
+      → TargetKeeps now after (in_next_row now.view (row_then accepts now.view.active x error))
   ends_row turns seen reason =
       as_decided (record {
         rule = rule;
@@ -91,7 +91,7 @@ ends_transfer {R} st now after e none rule is makes =
 
 -- a row asks, for which a port is left
 pub asks_now : {R : Type 0} (now after : TargetState R) (s : TargetSession) (sent : List DatagramView) → now.view.live ≡ Some s → is_asking s.row ≡ true → has_port now.view.end ≡ true
-    → Makes sides.Target (asked_by (row_request now.view s.row)) now.view.end after.view.end sent → Keeps now after (end_with now.view after.view.end) → Enters now after sent
+    → Makes sides.Target (asked_by (row_request now.view s.row)) now.view.end after.view.end sent → TargetKeeps now after (end_with now.view after.view.end) → Enters now after sent
 asks_now now after s sent live asks port makes rest = by_role (row_request now.view s.row) refl (asks_so now.view s.row ∙ asks) makes
   where
     by_role : (role : Option Role) → row_request now.view s.row ≡ role → is_some (row_request now.view s.row) ≡ true → Makes sides.Target (asked_by (row_request now.view s.row)) now.view.end after.view.end sent → Enters now after sent
@@ -111,7 +111,7 @@ asks_now now after s sent live asks port makes rest = by_role (row_request now.v
         }
 
 pub asks_now_ok : {R : Type 0} (now after : TargetState R) (s : TargetSession) (result : Result (Option Datagram) NoMemory) → now.view.live ≡ Some s → is_asking s.row ≡ true → has_port now.view.end ≡ true
-    → IfOk result (λ post. Makes sides.Target (asked_by (row_request now.view s.row)) now.view.end after.view.end (posted post)) → OnOk result (Keeps now after (end_with now.view after.view.end))
+    → IfOk result (λ post. Makes sides.Target (asked_by (row_request now.view s.row)) now.view.end after.view.end (posted post)) → OnOk result (TargetKeeps now after (end_with now.view after.view.end))
     → IfOk result (λ post. Enters now after (posted post))
 asks_now_ok now after s (Err e) live asks port makes rest = tt
 asks_now_ok now after s (Ok post) live asks port makes rest = asks_now now after s (posted post) live asks port makes rest

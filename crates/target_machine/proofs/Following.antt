@@ -10,7 +10,7 @@ use Rattle.disk_layout.specs.Holds.{Outline}
 use Rattle.tftp_packet.specs.Packets.{PacketView}
 use Rattle.tftp_link.specs.Answers.{Answer, Dropped, Again, Grants, TakesBlock, TakesLast, Proceeds, Completes, Fails, NewsView, news_by}
 use Rattle.transfer_end.specs.Calls.{Makes, posted}
-use Rattle.transfer_end.specs.CallLaws.{KeepsPorts, posts_join, transfer_keeps, views_join}
+use Rattle.transfer_end.proofs.CallLemmas.{KeepsPorts, posts_join, transfer_keeps, views_join}
 use Rattle.transfer_end.specs.Moves.{Move, Asks, Repeats, Stops, all_posts, view_after, views_after}
 use Rattle.transfer_end.specs.Packets.{has_port, heard_answer, may_repeat, transfer_moves}
 use Rattle.transfer_end.specs.Transfers.{Role}
@@ -18,11 +18,11 @@ use Rattle.transfer_end.specs.Views.{EndView}
 use Rattle.session_rules.specs.declared.reason.Reason.{Reason}
 use Rattle.session_rules.specs.Target.{Begins, Continues, Ends, TargetChange, TargetDecision, TargetSession, TargetView, Turns, Turns_without_port, active_in, answer_decision, continued, doing, in_row, is_over, later_reason, moved_decision, next_decision, nothing, reason_in, row_request, session_turned, target_changed, tick_decision, transfer_decision, turn_decision, view_turned, view_without_port}
 use Rattle.session_rules.specs.TargetRows.{Arriving, Gives_lci, Writes_lcs, Writes_lcl, Gives_lui, Gives_denial, Writes_ready, Awaits_lur, Reads_file, Writes_progress, Writes_stop, Writes_completion, Over, RowMove, RowView, row_move, view_moved, with_bytes}
-use Rattle.target_machine.specs.Decisions.{Does, Enters, IsCalm, Keeps, TargetState, asked_view, end_with, entered_view, entering_moves, following, in_next_row, row_then, with_live}
+use Rattle.target_machine.specs.Decisions.{TargetDoes, Enters, IsCalm, TargetKeeps, TargetState, asked_view, end_with, entered_view, entering_moves, following, in_next_row, row_then, with_live}
 
 -- these moves, and no change of the session
 pub does_moves : {R : Type 0} (st after : TargetState R) (moves : List Move) (end : EndView) (posts : List DatagramView) → IsCalm st.view.live → Makes sides.Target moves st.view.end end posts
-    → after.rule ≡ st.rule → after.view ≡ end_with st.view end → Does (doing moves) st after posts
+    → after.rule ≡ st.rule → after.view ≡ end_with st.view end → TargetDoes (doing moves) st after posts
 does_moves st after moves end posts calm makes rule is = record {
   rule = rule;
   keeps = is ∙ rw calm (ap (end_with st.view) makes.keeps);
@@ -30,7 +30,7 @@ does_moves st after moves end posts calm makes rule is = record {
 }
 
 -- nothing at all
-pub does_nothing : {R : Type 0} (st : TargetState R) → IsCalm st.view.live → Does nothing st st []
+pub does_nothing : {R : Type 0} (st : TargetState R) → IsCalm st.view.live → TargetDoes nothing st st []
 does_nothing st calm = record { rule = refl; keeps = rw calm refl; posts = refl }
 
 -- ---- a packet
@@ -110,8 +110,8 @@ changed_so v one end (Ends reason) = refl
 
 -- what is done after the moves of a packet, and with them
 pub does_both : {R : Type 0} (st mid : TargetState R) (heard : List Move) (end : EndView) (whole rest : TargetDecision) (after : TargetState R) (first second : List DatagramView)
-    → Makes sides.Target heard st.view.end end first → mid.rule ≡ st.rule → mid.view ≡ end_with st.view end → Continues_with heard whole rest → Does rest mid after second
-    → Does whole st after (first ++ second)
+    → Makes sides.Target heard st.view.end end first → mid.rule ≡ st.rule → mid.view ≡ end_with st.view end → Continues_with heard whole rest → TargetDoes rest mid after second
+    → TargetDoes whole st after (first ++ second)
 does_both st mid heard end whole rest after first second makes rule is both does = record {
   rule = does.rule ∙ rule;
   keeps = does.keeps
@@ -130,8 +130,8 @@ does_both st mid heard end whole rest after first second makes rule is both does
 transfers : {R : Type 0} (accepts : Accepts) (st mid : TargetState R) (from to : ℕ) (p : PacketView) (live : Option TargetSession) (news : NewsView) (after : TargetState R) (first second : List DatagramView)
     → st.view.live ≡ live → Makes sides.Target (transfer_moves st.view.end from to p) st.view.end mid.view.end first → mid.rule ≡ st.rule → mid.view ≡ end_with st.view mid.view.end
     → news ≡ news_by (heard_answer st.view.end from to p)
-    → ((s : TargetSession) → live ≡ Some s → Does (following accepts mid.view s news) mid after second) → (live ≡ None → (second ≡ []) × (after ≡ mid))
-    → Does (transfer_decision accepts st.view live from to p) st after (first ++ second)
+    → ((s : TargetSession) → live ≡ Some s → TargetDoes (following accepts mid.view s news) mid after second) → (live ≡ None → (second ≡ []) × (after ≡ mid))
+    → TargetDoes (transfer_decision accepts st.view live from to p) st after (first ++ second)
 transfers accepts st mid from to p None news after first second is makes rule same n does idle =
     let (none, kept) = idle refl in
     rw (none, append-nil first, kept) (does_moves st mid (transfer_moves st.view.end from to p) mid.view.end first (rw is refl) makes rule same)
@@ -139,14 +139,14 @@ transfers accepts st mid from to p (Some s) news after first second is makes rul
     let kept = subst (λ (x : EndView). KeepsPorts st.view.end x) (sym makes.keeps) (transfer_keeps sides.Target st.view.end from to p) in
     does_both st mid (transfer_moves st.view.end from to p) mid.view.end _ _ after first second makes rule same
     (answer_after accepts st.view mid.view.end (transfer_moves st.view.end from to p) kept s (heard_answer st.view.end from to p))
-    (subst (λ x. Does (following accepts (end_with st.view mid.view.end) s x) mid after second) n
-    (subst (λ (x : TargetView). Does (following accepts x s news) mid after second) same (does s refl)))
+    (subst (λ x. TargetDoes (following accepts (end_with st.view mid.view.end) s x) mid after second) n
+    (subst (λ (x : TargetView). TargetDoes (following accepts x s news) mid after second) same (does s refl)))
 
 pub hears : {R : Type 0} (accepts : Accepts) (st mid : TargetState R) (from to : ℕ) (p : PacketView) (news : NewsView) (after : TargetState R) (first second sent : List DatagramView)
     → Makes sides.Target (transfer_moves st.view.end from to p) st.view.end mid.view.end first → mid.rule ≡ st.rule → mid.view ≡ end_with st.view mid.view.end
     → news ≡ news_by (heard_answer st.view.end from to p)
-    → ((s : TargetSession) → st.view.live ≡ Some s → Does (following accepts mid.view s news) mid after second) → (st.view.live ≡ None → (second ≡ []) × (after ≡ mid))
-    → sent ≡ first ++ second → Does (transfer_decision accepts st.view st.view.live from to p) st after sent
+    → ((s : TargetSession) → st.view.live ≡ Some s → TargetDoes (following accepts mid.view s news) mid after second) → (st.view.live ≡ None → (second ≡ []) × (after ≡ mid))
+    → sent ≡ first ++ second → TargetDoes (transfer_decision accepts st.view st.view.live from to p) st after sent
 hears accepts st mid from to p news after first second sent makes rule same n does idle q =
     rw q (transfers accepts st mid from to p st.view.live news after first second refl makes rule same n does idle)
 
@@ -198,8 +198,8 @@ calm_of s e = ap arriving_in e
 -- what the last bytes of a file come to
 pub takes_last : {R : Type 0} (accepts : Accepts) (now mid after : TargetState R) (s : TargetSession) (payload : List ℕ) (posts : List DatagramView) → now.view.live ≡ Some s
     → mid.rule ≡ now.rule → mid.view ≡ with_live now.view (continued now.view.live payload) → IsCalm mid.view.live
-    → ((t : TargetSession) → mid.view.live ≡ Some t → Does (turn_decision accepts mid.view t [] [] None) mid after posts)
-    → Does (turn_decision accepts now.view s [] payload None) now after posts
+    → ((t : TargetSession) → mid.view.live ≡ Some t → TargetDoes (turn_decision accepts mid.view t [] [] None) mid after posts)
+    → TargetDoes (turn_decision accepts now.view s [] payload None) now after posts
 takes_last accepts now mid after s payload posts live rule m calm does =
     let taken : mid.view ≡ with_live now.view (Some (whole s payload)) = m ∙ ap (λ x. with_live now.view (continued x payload)) live in
     let is : mid.view.live ≡ Some (whole s payload) = ap (λ (x : TargetView). x.live) taken in
@@ -298,8 +298,8 @@ next_end v row false = refl
 
 -- A transfer of the live session is over: its row turns, and then asks for what it asks for.
 pub turns : {R : Type 0} (accepts : Accepts) (now mid after : TargetState R) (s : TargetSession) (error : Option ℕ) (sent : List DatagramView) → now.view.live ≡ Some s → IsCalm now.view.live
-    → Keeps now mid (in_next_row now.view (row_then accepts now.view.active s error)) → Enters mid after sent
-    → Does (turn_decision accepts now.view s [] [] error) now after sent
+    → TargetKeeps now mid (in_next_row now.view (row_then accepts now.view.active s error)) → Enters mid after sent
+    → TargetDoes (turn_decision accepts now.view s [] [] error) now after sent
 turns accepts now mid after s error sent live calm turned enters =
     let still = calm_of s (subst (λ x. IsCalm x) live calm) in
     let move = row_move accepts now.view.active s.row (record { error = error; arriving = s.arriving }) in
@@ -309,7 +309,7 @@ turns accepts now mid after s error sent live calm turned enters =
     let comes : ComesTo now.view (moved_decision now.view s.row [] [] s.arriving move) (in_next_row now.view (view_moved s.row s.arriving move)) =
     subst (λ (x : TargetView). ComesTo x (moved_decision x s.row [] [] s.arriving move) (in_next_row x (view_moved s.row s.arriving move))) (sym v)
     (by_role now.view s still move (row_request (with_live now.view (Some s)) (view_moved s.row s.arriving move)) refl) in
-    subst (λ x. Does x now after sent) (sym d)
+    subst (λ x. TargetDoes x now after sent) (sym d)
     (record {
       rule = enters.rule ∙ turned.rule;
       keeps = enters.keeps ∙ ap (λ (x : TargetView). entered_view x x.live) turned.view_is ∙ sym comes.keeps;
@@ -325,20 +325,20 @@ ticks_live v None is may = absurd cc
 ticks_live v (Some s) is may = rw may refl
 
 pub ticks : {R : Type 0} (st after : TargetState R) (end : EndView) (first sent : List DatagramView) → IsCalm st.view.live → is_none st.view.live ≡ false → may_repeat st.view.end ≡ true
-    → Makes sides.Target (Repeats ∷ []) st.view.end end first → after.rule ≡ st.rule → after.view ≡ end_with st.view end → sent ≡ first ++ [] → Does (tick_decision st.view.end st.view.live) st after sent
+    → Makes sides.Target (Repeats ∷ []) st.view.end end first → after.rule ≡ st.rule → after.view ≡ end_with st.view end → sent ≡ first ++ [] → TargetDoes (tick_decision st.view.end st.view.live) st after sent
 ticks st after end first sent calm is may makes rule same p =
     rw (ticks_live st.view.end st.view.live is may, p ∙ append-nil first) (does_moves st after (Repeats ∷ []) end first calm makes rule same)
 
 -- ---- as the code does it
 
 pub does_so : {R : Type 0} (st now after : TargetState R) (moves : List Move) (end : EndView) (posts : List DatagramView) → st ≡ now → IsCalm st.view.live → Makes sides.Target moves st.view.end end posts
-    → after.rule ≡ st.rule → after.view ≡ end_with st.view end → Does (doing moves) now after posts
-does_so st now after moves end posts same calm makes rule is = subst (λ x. Does (doing moves) x after posts) same (does_moves st after moves end posts calm makes rule is)
+    → after.rule ≡ st.rule → after.view ≡ end_with st.view end → TargetDoes (doing moves) now after posts
+does_so st now after moves end posts same calm makes rule is = subst (λ x. TargetDoes (doing moves) x after posts) same (does_moves st after moves end posts calm makes rule is)
 
 pub ticks_so : {R : Type 0} (st now after : TargetState R) (end : EndView) (first sent : List DatagramView) → st ≡ now → IsCalm st.view.live → is_none st.view.live ≡ false → may_repeat st.view.end ≡ true
-    → Makes sides.Target (Repeats ∷ []) st.view.end end first → after.rule ≡ st.rule → after.view ≡ end_with st.view end → sent ≡ first ++ [] → Does (tick_decision now.view.end now.view.live) now after sent
+    → Makes sides.Target (Repeats ∷ []) st.view.end end first → after.rule ≡ st.rule → after.view ≡ end_with st.view end → sent ≡ first ++ [] → TargetDoes (tick_decision now.view.end now.view.live) now after sent
 ticks_so st now after end first sent same calm is may makes rule kept p =
-    subst (λ x. Does (tick_decision x.view.end x.view.live) x after sent) same (ticks st after end first sent calm is may makes rule kept p)
+    subst (λ x. TargetDoes (tick_decision x.view.end x.view.live) x after sent) same (ticks st after end first sent calm is may makes rule kept p)
 
 pub same_view : (end end' : EndView) (live live' : Option TargetSession) (active active' : Outline) (reason reason' : Option Reason) → end ≡ end' → live ≡ live' → active ≡ active' → reason ≡ reason'
     → ◌≡◌ {A = TargetView} (record { end = end; live = live; active = active; reason = reason }) (record { end = end'; live = live'; active = active'; reason = reason' })
@@ -346,20 +346,20 @@ same_view end end' live live' active active' reason reason' e l a r = rw (e, l, 
 
 -- a live session is over
 pub closes : {R : Type 0} (st now after : TargetState R) → st ≡ now → after.rule ≡ st.rule → after.view.live ≡ None → after.view.active ≡ st.view.active → after.view.reason ≡ st.view.reason
-    → Makes sides.Target (Stops ∷ []) st.view.end after.view.end [] → Keeps now after (with_live (end_with now.view (view_after sides.Target now.view.end Stops)) None)
+    → Makes sides.Target (Stops ∷ []) st.view.end after.view.end [] → TargetKeeps now after (with_live (end_with now.view (view_after sides.Target now.view.end Stops)) None)
 closes st now after same rule live active reason makes =
-    subst (λ x. Keeps x after (with_live (end_with x.view (view_after sides.Target x.view.end Stops)) None)) same
+    subst (λ x. TargetKeeps x after (with_live (end_with x.view (view_after sides.Target x.view.end Stops)) None)) same
     (record { rule = rule; view_is = same_view _ _ _ _ _ _ _ _ makes.keeps live active reason })
 
 -- an event of the session's own is heard as it was sent
 pub hears_so : {R : Type 0} (accepts : Accepts) (st now mid after : TargetState R) (from to : ℕ) (p : PacketView) (news : NewsView) (first second sent : List DatagramView)
     → st ≡ now → Makes sides.Target (transfer_moves st.view.end from to p) st.view.end mid.view.end first → mid.rule ≡ st.rule → mid.view ≡ end_with st.view mid.view.end
     → news ≡ news_by (heard_answer st.view.end from to p)
-    → ((s : TargetSession) → mid.view.live ≡ Some s → Does (following accepts mid.view s news) mid after second) → (mid.view.live ≡ None → (second ≡ []) × (after ≡ mid))
-    → sent ≡ first ++ second → Does (transfer_decision accepts now.view now.view.live from to p) now after sent
+    → ((s : TargetSession) → mid.view.live ≡ Some s → TargetDoes (following accepts mid.view s news) mid after second) → (mid.view.live ≡ None → (second ≡ []) × (after ≡ mid))
+    → sent ≡ first ++ second → TargetDoes (transfer_decision accepts now.view now.view.live from to p) now after sent
 hears_so accepts st now mid after from to p news first second sent same makes rule kept n does idle q =
     let is : st.view.live ≡ mid.view.live = sym (ap (λ (x : TargetView). x.live) kept) in
-    subst (λ x. Does (transfer_decision accepts x.view x.view.live from to p) x after sent) same
+    subst (λ x. TargetDoes (transfer_decision accepts x.view x.view.live from to p) x after sent) same
     (hears accepts st mid from to p news after first second sent makes rule kept n (λ s e. does s (sym is ∙ e)) (λ e. idle (sym is ∙ e)) q)
 
 -- ---- rows
@@ -376,8 +376,8 @@ turned_over v row end live active reason over e l a r =
     same_view _ _ _ _ _ _ _ _ e l (a ∙ ap (active_in v.active) over) r ∙ sym (ap (λ x. if is_over x then with_live v None else view_turned v.end v x) over)
 
 pub ends_with_last : {R : Type 0} (accepts : Accepts) (now mid after : TargetState R) (s : TargetSession) (payload : List ℕ) (result : Result (Option Datagram) Down) → now.view.live ≡ Some s
-    → Keeps now mid (with_live now.view (continued now.view.live payload)) → IsCalm mid.view.live
-    → ((t : TargetSession) → mid.view.live ≡ Some t → IfOk result (λ post. Does (turn_decision accepts mid.view t [] [] None) mid after (posted post)))
-    → IfOk result (λ post. Does (turn_decision accepts now.view s [] payload None) now after (posted post))
+    → TargetKeeps now mid (with_live now.view (continued now.view.live payload)) → IsCalm mid.view.live
+    → ((t : TargetSession) → mid.view.live ≡ Some t → IfOk result (λ post. TargetDoes (turn_decision accepts mid.view t [] [] None) mid after (posted post)))
+    → IfOk result (λ post. TargetDoes (turn_decision accepts now.view s [] payload None) now after (posted post))
 ends_with_last accepts now mid after s payload (Err e) live takes calm does = tt
 ends_with_last accepts now mid after s payload (Ok post) live takes calm does = takes_last accepts now mid after s payload (posted post) live takes.rule takes.view_is calm does

@@ -13,7 +13,7 @@ use Rattle.session_rules.specs.TargetRows.{Arriving, Awaits_lur, Gives_denial, G
 use Rattle.session_rules.specs.Uploads.{Upload, UploadView, upload_view}
 use Rattle.load_intake.specs.declared.down.Down.{Down}
 use Rattle.load_intake.specs.Contents.{BringsRow, BringsTo, HoldsRow, InstallsRow, IsOf}
-use Rattle.load_intake.specs.ContentLaws.{adds_nothing, adds_same, beside_continued}
+use Rattle.load_intake.proofs.ContentLemmas.{adds_nothing, adds_same, beside_continued}
 use Rattle.load_intake.specs.States.{IntakeState}
 use Rattle.disk_layout.specs.Manifest.{LoadEntry}
 use Rattle.target_machine.specs.Disks.{IsResting, TurnsDisk}

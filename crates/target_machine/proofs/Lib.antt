@@ -6,3 +6,4 @@ pub mod Serving
 pub mod Turning
 pub mod Holding
 pub mod Bringing
+pub mod DiskLemmas

@@ -17,7 +17,7 @@ use Rattle.session_rules.specs.declared.outcome.FileKind.TheVariants.{Lci, Lui}
 use Rattle.session_rules.specs.declared.reason.Reason.TheVariants as reasons
 use Rattle.session_rules.specs.Target.{Begins, TargetDecision, TargetSession, TargetView, active_in, doing, ending, in_row, later_reason, nothing, own_decision, own_file, own_name, read_decision, reason_in, without_port, write_decision, write_in}
 use Rattle.session_rules.specs.TargetRows.{RowView, Gives_lci, Writes_lcs, Writes_lcl, Gives_lui, Gives_denial, Writes_ready, Awaits_lur, Reads_file, Writes_progress, Writes_stop, Writes_completion, Over, first_row}
-use Rattle.target_machine.specs.Decisions.{Does, IsCalm, Keeps, Serving, TargetState, awaits_file, awaits_in, end_with, given_kind, kind_given, refusing, taking, with_live, writing_decision}
+use Rattle.target_machine.specs.Decisions.{TargetDoes, IsCalm, TargetKeeps, TargetServes, TargetState, awaits_file, awaits_in, end_with, given_kind, kind_given, refusing, taking, with_live, writing_decision}
 use Rattle.target_machine.proofs.Following.{does_moves, does_nothing, same_view}
 
 -- ---- a request is taken
@@ -78,55 +78,55 @@ other_by v from name options is = by_names (bytes_eq name (own_name v Lci)) (byt
     by_names false true e = absurd cc
     by_names false false e = refl
 
-pub serves : {R : Type 0} (now mid after : TargetState R) (from : ℕ) (decision : TargetDecision) (sent : List DatagramView) (taken : Bool) → Serving taken from now mid → taken ≡ true
-    → (mid ≡ now → Does decision now after sent) → Does (taking now.view from decision) now after sent
+pub serves : {R : Type 0} (now mid after : TargetState R) (from : ℕ) (decision : TargetDecision) (sent : List DatagramView) (taken : Bool) → TargetServes taken from now mid → taken ≡ true
+    → (mid ≡ now → TargetDoes decision now after sent) → TargetDoes (taking now.view from decision) now after sent
 serves now mid after from decision sent true serving is does =
     let (same, fresh, port) = serving in
-    subst (λ d. Does d now after sent) (sym (taken_so now.view from decision fresh port)) (does same)
+    subst (λ d. TargetDoes d now after sent) (sym (taken_so now.view from decision fresh port)) (does same)
 serves now mid after from decision sent false serving is does = absurd cc
 
-pub not_taken : {R : Type 0} (now mid : TargetState R) (from : ℕ) (decision : TargetDecision) (taken : Bool) (sent : List DatagramView) → Serving taken from now mid → taken ≡ false → sent ≡ []
-    → Does (taking now.view from decision) now mid sent
+pub not_taken : {R : Type 0} (now mid : TargetState R) (from : ℕ) (decision : TargetDecision) (taken : Bool) (sent : List DatagramView) → TargetServes taken from now mid → taken ≡ false → sent ≡ []
+    → TargetDoes (taking now.view from decision) now mid sent
 not_taken now mid from decision true sent serving is p = absurd cc
 not_taken now mid from decision false sent serving is p = rw p (serving decision)
 
 -- ---- whether it is
 
 -- the port isn't fresh
-pub not_fresh : {R : Type 0} (now : TargetState R) (from : ℕ) → IsCalm now.view.live → is_fresh now.view.end from ≡ false → Serving false from now now
+pub not_fresh : {R : Type 0} (now : TargetState R) (from : ℕ) → IsCalm now.view.live → is_fresh now.view.end from ≡ false → TargetServes false from now now
 not_fresh now from calm fresh = λ decision. rw fresh (does_nothing now calm)
 
 -- no port is left, and no session is live
-pub no_port_idle : {R : Type 0} (now : TargetState R) (from : ℕ) → IsCalm now.view.live → is_fresh now.view.end from ≡ true → has_port now.view.end ≡ false → is_some now.view.live ≡ false → Serving false from now now
+pub no_port_idle : {R : Type 0} (now : TargetState R) (from : ℕ) → IsCalm now.view.live → is_fresh now.view.end from ≡ true → has_port now.view.end ≡ false → is_some now.view.live ≡ false → TargetServes false from now now
 no_port_idle now from calm fresh port idle = λ decision. rw (fresh, port, without_live now.view.live idle) (does_nothing now calm)
 
 -- or one is, and ends
 pub no_port_live : {R : Type 0} (now after : TargetState R) (from : ℕ) → is_fresh now.view.end from ≡ true → has_port now.view.end ≡ false → is_some now.view.live ≡ true
-    → Does (ending (Some reasons.PortsSpent)) now after [] → Serving false from now after
+    → TargetDoes (ending (Some reasons.PortsSpent)) now after [] → TargetServes false from now after
 no_port_live now after from fresh port live does = λ decision. rw (fresh, port, with_session now.view.live live) does
 
 -- ---- to read
 
 -- the target's own files, or any other
 pub gives : {R : Type 0} (now after : TargetState R) (from : ℕ) (name : List ℕ) (options : Options) (sent : List DatagramView) (kind : SessionKind) → given_kind now.view name ≡ Some kind
-    → Does (own_decision now.view from (kind_given kind) name options) now after sent → Does (read_decision now.view from name options) now after sent
-gives now after from name options sent kind is does = subst (λ d. Does d now after sent) (sym (own_by now.view from name options kind is)) does
+    → TargetDoes (own_decision now.view from (kind_given kind) name options) now after sent → TargetDoes (read_decision now.view from name options) now after sent
+gives now after from name options sent kind is does = subst (λ d. TargetDoes d now after sent) (sym (own_by now.view from name options kind is)) does
 
 pub refuses : {R : Type 0} (now after : TargetState R) (from : ℕ) (name : List ℕ) (options : Options) (sent : List DatagramView) → given_kind now.view name ≡ None
-    → Does (refusing now.view from) now after sent → Does (read_decision now.view from name options) now after sent
-refuses now after from name options sent is does = subst (λ d. Does d now after sent) (sym (other_by now.view from name options is)) does
+    → TargetDoes (refusing now.view from) now after sent → TargetDoes (read_decision now.view from name options) now after sent
+refuses now after from name options sent is does = subst (λ d. TargetDoes d now after sent) (sym (other_by now.view from name options is)) does
 
 -- ---- to write
 
 pub writes : {R : Type 0} (now after : TargetState R) (from : ℕ) (name : List ℕ) (options : Options) (sent : List DatagramView) → is_busy now.view.end ≡ false → awaits_file now.view now.view.live name ≡ true
-    → Does (taking now.view from (doing (Serves from (ServesWrite name options) ∷ []))) now after sent → Does (writing_decision now.view from name options) now after sent
+    → TargetDoes (taking now.view from (doing (Serves from (ServesWrite name options) ∷ []))) now after sent → TargetDoes (writing_decision now.view from name options) now after sent
 writes now after from name options sent busy awaits does =
-    subst (λ d. Does d now after sent) (sym (rw (busy, writes_by now.view from name options now.view.live, awaits) refl)) does
+    subst (λ d. TargetDoes d now after sent) (sym (rw (busy, writes_by now.view from name options now.view.live, awaits) refl)) does
 
 pub writes_nothing : {R : Type 0} (now : TargetState R) (from : ℕ) (name : List ℕ) (options : Options) (sent : List DatagramView) → IsCalm now.view.live → sent ≡ []
-    → (is_busy now.view.end ≡ true) ⊎ (awaits_file now.view now.view.live name ≡ false) → Does (writing_decision now.view from name options) now now sent
+    → (is_busy now.view.end ≡ true) ⊎ (awaits_file now.view now.view.live name ≡ false) → TargetDoes (writing_decision now.view from name options) now now sent
 writes_nothing now from name options sent calm p why =
-    rw p (subst (λ d. Does d now now []) (sym (nothing_by (is_busy now.view.end) (awaits_file now.view now.view.live name) refl refl why)) (does_nothing now calm))
+    rw p (subst (λ d. TargetDoes d now now []) (sym (nothing_by (is_busy now.view.end) (awaits_file now.view now.view.live name) refl refl why)) (does_nothing now calm))
   where
     nothing_by : (busy awaits : Bool) → is_busy now.view.end ≡ busy → awaits_file now.view now.view.live name ≡ awaits → (busy ≡ true) ⊎ (awaits ≡ false)
         → writing_decision now.view from name options ≡ nothing
@@ -139,10 +139,10 @@ pub makes_so : (moves : List Move) (before after : EndView) (posts sent : List D
 makes_so moves before after posts sent p makes = rw p makes
 
 pub refuses_so : {R : Type 0} (st now : TargetState R) (from : ℕ) (sent : List DatagramView) (busy : Bool) → st ≡ now → IsCalm st.view.live → busy ≡ is_busy st.view.end → busy ≡ false
-    → Makes sides.Target (Refuses from ∷ []) st.view.end st.view.end sent → Does (refusing now.view from) now now sent
+    → Makes sides.Target (Refuses from ∷ []) st.view.end st.view.end sent → TargetDoes (refusing now.view from) now now sent
 refuses_so st now from sent busy same calm b is makes =
-    subst (λ x. Does (refusing x.view from) x x sent) same
-    (subst (λ d. Does d st st sent) (sym (ap (λ x. if x then nothing else doing (Refuses from ∷ [])) (sym b ∙ is))) (does_moves st st (Refuses from ∷ []) st.view.end sent calm makes refl refl))
+    subst (λ x. TargetDoes (refusing x.view from) x x sent) same
+    (subst (λ d. TargetDoes d st st sent) (sym (ap (λ x. if x then nothing else doing (Refuses from ∷ [])) (sym b ∙ is))) (does_moves st st (Refuses from ∷ []) st.view.end sent calm makes refl refl))
 
 -- ---- a session begins
 
@@ -158,14 +158,14 @@ abbrev pub row_begun : SessionKind → (sequence : ℕ) → RowView
 row_begun kind sequence = first_row (kind_given kind) sequence
 
 pub begins_session : {R : Type 0} (now mid closed after : TargetState R) (from : ℕ) (kind : SessionKind) (name : List ℕ) (options : Options) (file : List ℕ) (sent : List DatagramView)
-    → mid ≡ now → Keeps mid closed (with_live (end_with mid.view (view_after sides.Target mid.view.end Stops)) None)
+    → mid ≡ now → TargetKeeps mid closed (with_live (end_with mid.view (view_after sides.Target mid.view.end Stops)) None)
     → file ≡ own_file (kind_given kind) closed.view.active.sequence
     → Makes sides.Target (Serves from (ServesRead name options file) ∷ []) closed.view.end after.view.end sent
     → after.rule ≡ closed.rule → after.view.live ≡ Some (in_row (first_row (kind_given kind) closed.view.active.sequence)) → after.view.active ≡ closed.view.active
     → after.view.reason ≡ later_reason closed.view.reason (reason_in (row_begun kind closed.view.active.sequence))
-    → Does (record { moves = Stops ∷ Serves from (ServesRead name options (own_file (kind_given kind) now.view.active.sequence)) ∷ []; change = Begins (kind_given kind) }) now after sent
+    → TargetDoes (record { moves = Stops ∷ Serves from (ServesRead name options (own_file (kind_given kind) now.view.active.sequence)) ∷ []; change = Begins (kind_given kind) }) now after sent
 begins_session now mid closed after from kind name options file sent same closes is makes rule live active reason =
-    subst (λ x. Does (record { moves = Stops ∷ Serves from (ServesRead name options (own_file (kind_given kind) x.view.active.sequence)) ∷ []; change = Begins (kind_given kind) }) x after sent) same
+    subst (λ x. TargetDoes (record { moves = Stops ∷ Serves from (ServesRead name options (own_file (kind_given kind) x.view.active.sequence)) ∷ []; change = Begins (kind_given kind) }) x after sent) same
     (record {
       rule = rule ∙ closes.rule;
       keeps = same_view _ _ _ _ _ _ _ _
@@ -182,6 +182,6 @@ begins_session now mid closed after from kind name options file sent same closes
     kept_file = ap (λ (x : TargetView). own_file (kind_given kind) x.active.sequence) closes.view_is
 
 pub gives_so : {R : Type 0} (now after : TargetState R) (from : ℕ) (name : List ℕ) (options : Options) (kind : SessionKind) (result : Result Posts NoMemory) → given_kind now.view name ≡ Some kind
-    → IfOk result (λ posts. Does (own_decision now.view from (kind_given kind) name options) now after (posts_view posts)) → IfOk result (λ posts. Does (read_decision now.view from name options) now after (posts_view posts))
+    → IfOk result (λ posts. TargetDoes (own_decision now.view from (kind_given kind) name options) now after (posts_view posts)) → IfOk result (λ posts. TargetDoes (read_decision now.view from name options) now after (posts_view posts))
 gives_so now after from name options kind (Err e) is does = tt
 gives_so now after from name options kind (Ok posts) is does = gives now after from name options (posts_view posts) kind is does

@@ -1,5 +1,5 @@
 -- What the end of a transfer comes to, of what is installed.
-use Rattle.std.proofs.Common.{◌≡◌, ◌≤◌, List, length, take, Option, Some, Result, Ok, Err, IfOk, OnOk, refl, sym, ap, subst, ◌∙◌, arith}
+use Rattle.std.proofs.Common.{◌≡◌, List, length, take, Option, Some, Result, Ok, Err, IfOk, OnOk, refl, sym, ap, subst, ◌∙◌, arith}
 use Rattle.std.proofs.lemmas.List.{take_at}
 use Rattle.disk_model.specs.State.{DiskState}
 use Rattle.disk_layout.specs.Holds.{Outline}

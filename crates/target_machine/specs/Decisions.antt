@@ -29,14 +29,14 @@ pub record TargetState (R : Type 0) : Type 0 where
   pub held : ℕ
 
 -- A call does what is decided: what the target keeps then, and all that it posts.
-pub record Does {R : Type 0} (decision : TargetDecision) (before after : TargetState R) (sent : List DatagramView) : Type 0 where
+pub record TargetDoes {R : Type 0} (decision : TargetDecision) (before after : TargetState R) (sent : List DatagramView) : Type 0 where
   pub rule : after.rule ≡ before.rule
   pub keeps : after.view ≡ target_changed (views_after sides.Target before.view.end decision.moves) before.view decision.change
   pub posts : sent ≡ all_posts sides.Target before.view.end decision.moves
 
 -- A call takes an event: it does what the target's rules decide then, where the interlock accepts these headers.
-abbrev pub Takes : {R : Type 0} → Accepts → Event → (before after : TargetState R) → List DatagramView → Type 0
-Takes accepts e before after sent = Does (target_decision accepts before.view e) before after sent
+abbrev pub TargetTakesEvent : {R : Type 0} → Accepts → Event → (before after : TargetState R) → List DatagramView → Type 0
+TargetTakesEvent accepts e before after sent = TargetDoes (target_decision accepts before.view e) before after sent
 
 -- ---- how a call does it, piece by piece
 
@@ -49,7 +49,7 @@ abbrev pub with_live : TargetView → Option TargetSession → TargetView
 with_live v live = record { end = v.end; live = live; active = v.active; reason = v.reason }
 
 -- The call may change the store; what the target keeps then is this.
-pub record Keeps {R : Type 0} (before after : TargetState R) (view : TargetView) : Type 0 where
+pub record TargetKeeps {R : Type 0} (before after : TargetState R) (view : TargetView) : Type 0 where
   pub rule : after.rule ≡ before.rule
   pub view_is : after.view ≡ view
 
@@ -125,9 +125,9 @@ abbrev pub taking : TargetView → (from : ℕ) → TargetDecision → TargetDec
 taking v from decision = if is_fresh v.end from then (if has_port v.end then decision else without_port v.live) else nothing
 
 -- whether a request from this port is taken: then nothing has happened yet, and else all has that the request brings
-abbrev pub Serving : {R : Type 0} → (taken : Bool) → (from : ℕ) → (before after : TargetState R) → Type 0
-Serving true from before after = (after ≡ before) × (is_fresh before.view.end from ≡ true) × (has_port before.view.end ≡ true)
-Serving false from before after = (decision : TargetDecision) → Does (taking before.view from decision) before after []
+abbrev pub TargetServes : {R : Type 0} → (taken : Bool) → (from : ℕ) → (before after : TargetState R) → Type 0
+TargetServes true from before after = (after ≡ before) × (is_fresh before.view.end from ≡ true) × (has_port before.view.end ≡ true)
+TargetServes false from before after = (decision : TargetDecision) → TargetDoes (taking before.view from decision) before after []
 
 -- the target's own file that an operation begins with
 abbrev pub kind_given : SessionKind → FileKind

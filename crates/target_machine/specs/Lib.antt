@@ -5,4 +5,3 @@ pub mod Stages
 pub mod Booting
 pub mod Boots
 pub mod Disks
-pub mod DiskLaws

@@ -1,7 +1,7 @@
 //! What is installed at a target, and how it changes.
 ghost use Rattle.std.specs.Option.{ForSome};
 ghost use Rattle.std.specs.Prelude.{◌≡◌, ℕ, List, None, Some, IfOk, OnErr, OnOk};
-ghost use Rattle.accept_rules.specs.Interlocks.{Follows};
+ghost use Rattle.accept_rules.specs.Interlocks.{FollowsAccepts};
 ghost use Rattle.accept_rules.specs.Permissions.{Accepts};
 ghost use Rattle.bank_store.specs.DiskWrites.{IsRunning};
 ghost use Rattle.bank_store.specs.Fits.{InstallsBeside};
@@ -11,16 +11,16 @@ ghost use Rattle.disk_layout.specs.Holds.{StandingView};
 ghost use Rattle.disk_layout.specs.Manifest.{LoadEntry};
 ghost use Rattle.session_rules.specs.Buffers.{Buffer};
 ghost use Rattle.session_rules.specs.TargetRows.{Awaits_lur, Kept_bytes, Reads_file, done_move};
-ghost use Rattle.session_rules.specs.TargetRows.{error_move, first_row as first_of, row_after};
+ghost use Rattle.session_rules.specs.TargetRows.{first_row as first_of};
 ghost use Rattle.session_rules.specs.TargetRows.{row_moved, view_moved};
 ghost use Rattle.session_rules.specs.Contents.{SessionContents, session_kept};
 ghost use Rattle.session_rules.specs.Uploads.{Upload};
 ghost use Rattle.recovery.specs.Surveys.{IsSurveyInRange, outline_of_survey};
 ghost use Rattle.load_intake.specs.Contents.{BringsRow, InstallsRow, IsOf};
-ghost use Rattle.load_intake.specs.Stores.{IsInStep, Writes};
+ghost use Rattle.load_intake.specs.Stores.{Writes};
 ghost use Rattle.target_machine.specs.Decisions.{broken_to, kind_given, row_then};
 ghost use Rattle.target_machine.specs.Disks.{TurnsDisk, whole_row_then};
-ghost use Rattle.target_machine.specs.Machine.{arriving_in, next_seen, row_seen, seen_at};
+ghost use Rattle.target_machine.specs.Machine.{arriving_in, row_seen, seen_at};
 ghost use Rattle.target_machine.specs.Stages.{CanBegin, IsNextStage, IsReading, IsRowStage};
 ghost use Rattle.target_machine.specs.Stages.{StartsFresh, StaysOn, TurnsTo};
 
@@ -136,7 +136,7 @@ impl Installed {
     ) -> Result<Option<Row>, Down>
         requires stage { IsRowStage row self.old.store }
         requires running { IsRunning (K.state disk.old) }
-        ensures row { (accepts : Accepts) → Follows R.may_say interlock.now accepts
+        ensures row { (accepts : Accepts) → FollowsAccepts R.may_say interlock.now accepts
             → IfOk result (λ next. TurnsTo next (row_then accepts self.old.active
             (seen_at self.old.active.loads row arriving.old) error)
             self.old self.new) }
@@ -144,7 +144,7 @@ impl Installed {
         ensures failed { OnErr result (IsIdle self.new.store) }
         ensures goes_on { OnOk result (StaysOn self.old.store self.new.store (K.state disk.old)
             (K.state disk.new)) }
-        ensures brings { (accepts : Accepts) → Follows R.may_say interlock.now accepts
+        ensures brings { (accepts : Accepts) → FollowsAccepts R.may_say interlock.now accepts
             → (s : StandingView) (x : SessionContents)
             → seen_at self.old.active.loads row arriving.old ≡ session_kept x
             → InstallsRow self.old.store (K.state disk.old) s x.row x.arrived
@@ -174,14 +174,14 @@ impl Installed {
     ) -> Result<Option<Row>, Down>
         requires stage { IsRowStage row self.old.store }
         requires running { IsRunning (K.state disk.old) }
-        ensures row { (accepts : Accepts) → Follows R.may_say interlock.now accepts
+        ensures row { (accepts : Accepts) → FollowsAccepts R.may_say interlock.now accepts
             → IfOk result (λ next. TurnsTo next (row_then accepts self.old.active
             (seen_at self.old.active.loads row arriving.old) error)
             self.old self.new) }
         ensures stage { IfOk result (λ next. ForSome next (λ row. IsRowStage row self.new.store)) }
         ensures goes_on { OnOk result (StaysOn self.old.store self.new.store (K.state disk.old)
             (K.state disk.new)) }
-        ensures brings { (accepts : Accepts) → Follows R.may_say interlock.now accepts
+        ensures brings { (accepts : Accepts) → FollowsAccepts R.may_say interlock.now accepts
             → (s : StandingView) (x : SessionContents)
             → seen_at self.old.active.loads row arriving.old ≡ session_kept x
             → InstallsRow self.old.store (K.state disk.old) s x.row x.arrived
@@ -229,14 +229,14 @@ impl Installed {
     ) -> Result<Option<Row>, Down>
         requires stage { IsRowStage row self.old.store }
         requires running { IsRunning (K.state disk.old) }
-        ensures row { (accepts : Accepts) → Follows R.may_say interlock.now accepts
+        ensures row { (accepts : Accepts) → FollowsAccepts R.may_say interlock.now accepts
             → IfOk result (λ next. TurnsTo next (row_then accepts self.old.active
             (seen_at self.old.active.loads row arriving.old) None)
             self.old self.new) }
         ensures stage { IfOk result (λ next. ForSome next (λ row. IsRowStage row self.new.store)) }
         ensures goes_on { OnOk result (StaysOn self.old.store self.new.store (K.state disk.old)
             (K.state disk.new)) }
-        ensures brings { (accepts : Accepts) → Follows R.may_say interlock.now accepts
+        ensures brings { (accepts : Accepts) → FollowsAccepts R.may_say interlock.now accepts
             → (s : StandingView) (x : SessionContents)
             → seen_at self.old.active.loads row arriving.old ≡ session_kept x
             → InstallsRow self.old.store (K.state disk.old) s x.row x.arrived
@@ -260,14 +260,14 @@ impl Installed {
     ) -> Result<Row, Down>
         requires stage { IsReading intake self.old.store }
         requires running { IsRunning (K.state disk.old) }
-        ensures row { (accepts : Accepts) → Follows R.may_say interlock.now accepts
+        ensures row { (accepts : Accepts) → FollowsAccepts R.may_say interlock.now accepts
             → IfOk result (λ row. TurnsTo (Some row) (view_moved (Reads_file intake.upload)
             intake.arriving (done_move accepts self.old.active (Reads_file intake.upload)
             intake.arriving)) self.old self.new) }
         ensures stage { IfOk result (λ row. IsRowStage row self.new.store) }
         ensures goes_on { OnOk result (StaysOn self.old.store self.new.store (K.state disk.old)
             (K.state disk.new)) }
-        ensures brings { (accepts : Accepts) → Follows R.may_say interlock.now accepts
+        ensures brings { (accepts : Accepts) → FollowsAccepts R.may_say interlock.now accepts
             → (s : StandingView) (u : Upload) (arrived : List ℕ) → IsOf intake u arrived
             → InstallsRow self.old.store (K.state disk.old) s (Reads_file u) arrived
             → BringsRow (K.state disk.old) self.new.store (K.state disk.new) s
@@ -278,10 +278,12 @@ impl Installed {
         let active = self.manifest.loads.as_slice();
         match intake.finish(interlock, &self.identity, active, &mut self.store, disk)? {
             Finished::MoreFiles(intake) => {
+                // For the proof: does nothing.
                 intake.no_more();
                 Ok(Row::ReadsFile(intake))
             }
             Finished::NextLoad(intake) => {
+                // For the proof: does nothing.
                 intake.no_more();
                 Ok(Row::WritesProgress(intake))
             }
@@ -321,6 +323,7 @@ impl Installed {
             Request::Loads(loads) => {
                 let buffer = mem::replace(file, FileBuffer::new(alloc));
                 let intake = Intake::begin(alloc, loads, buffer, &mut self.store, disk)?;
+                // For the proof: does nothing.
                 intake.no_more();
                 Ok(Row::ReadsFile(intake))
             }

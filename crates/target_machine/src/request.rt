@@ -8,7 +8,7 @@ ghost use Rattle.transfer_end.specs.Calls.{Makes, posted};
 ghost use Rattle.tftp_packet.specs.Options.{AreInRange};
 ghost use Rattle.transfer_end.specs.Moves.{Asks, Serves};
 ghost use Rattle.transfer_end.specs.Packets.{has_port, wanted_options};
-ghost use Rattle.transfer_end.specs.Transfers.{Reads, ServesRead, Writes};
+ghost use Rattle.transfer_end.specs.Transfers.{ServesRead, Writes};
 ghost use Rattle.session_rules.specs.declared.outcome.SessionKind.{SessionKind as SessionKindState};
 ghost use Rattle.session_rules.specs.FileNames.{file_name as name_of};
 ghost use Rattle.session_rules.specs.Target.{TargetView, last_lus as last_bytes, own_file};

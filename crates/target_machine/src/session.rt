@@ -82,6 +82,7 @@ impl LiveSession {
         match &mut self.row {
             Row::ReadsFile(intake) => {
                 intake.take(store, disk, payload)?;
+                // For the proof: does nothing.
                 intake.no_more();
                 Ok(())
             }

@@ -1,8 +1,8 @@
 //! The target.
 ghost use Rattle.std.specs.Option.{ForSome};
-ghost use Rattle.std.specs.Prelude.{◌≡◌, ◌≤◌, ◌∷◌, [], List, ℕ, None, Some, true, IfErr, IfOk};
+ghost use Rattle.std.specs.Prelude.{◌≡◌, ◌≤◌, [], List, ℕ, None, Some, true, IfErr, IfOk};
 ghost use Rattle.std.specs.Prelude.{IsErrOf, OnOk, bytes_eq, is_some, option_map};
-ghost use Rattle.accept_rules.specs.Interlocks.{Follows};
+ghost use Rattle.accept_rules.specs.Interlocks.{FollowsAccepts};
 ghost use Rattle.accept_rules.specs.Permissions.{Accepts};
 ghost use Rattle.bank_store.specs.DiskWrites.{IsRunning};
 ghost use Rattle.bank_store.specs.Fits.{Fits, LosesOnlyWork, Works};
@@ -32,8 +32,9 @@ ghost use Rattle.load_intake.specs.Stores.{Writes};
 ghost use Rattle.target_machine.specs.Boots.{BootFails, BootReads, ComesUp};
 ghost use Rattle.target_machine.specs.declared.boot.BootFault.TheVariants.{Recover};
 ghost use Rattle.disk_layout.specs.declared.fault.RecoverFault.TheVariants as recovers;
-ghost use Rattle.target_machine.specs.Decisions.{Does, Enters, IsCalm, Keeps, Serving};
-ghost use Rattle.target_machine.specs.Decisions.{Takes, asked_by};
+ghost use Rattle.target_machine.specs.Decisions.{TargetDoes, Enters, IsCalm, TargetKeeps};
+ghost use Rattle.target_machine.specs.Decisions.{TargetServes};
+ghost use Rattle.target_machine.specs.Decisions.{TargetTakesEvent, asked_by};
 ghost use Rattle.target_machine.specs.Decisions.{awaits_file, end_with};
 ghost use Rattle.target_machine.specs.Decisions.{following, given_kind, in_next_row, kind_given};
 ghost use Rattle.target_machine.specs.Decisions.{refusing, row_then, with_live};
@@ -144,12 +145,12 @@ impl<'i, R: Rule> Target<'i, R> {
         bytes: &[u8],
     ) -> Result<Posts, Down>
         requires { IsRunning (K.state disk.old) }
-        ensures takes { (accepts : Accepts) → Follows R.may_say self.old.rule accepts
-            → IfOk result (λ posts. Takes accepts (Gets from to bytes.now)
+        ensures takes { (accepts : Accepts) → FollowsAccepts R.may_say self.old.rule accepts
+            → IfOk result (λ posts. TargetTakesEvent accepts (Gets from to bytes.now)
             self.old self.new (posts_view posts)) }
         // What the disk has then, and what a power loss may have left.
         ensures keeps_disk { (accepts : Accepts)
-            → Follows R.may_say self.old.rule accepts
+            → FollowsAccepts R.may_say self.old.rule accepts
             → (c : TargetContents) → AreKept c self.old.view
             → HoldsContents self.old.store (K.state disk.old) c
             → KeepsDisk (K.state disk.old) self.new.store (K.state disk.new) c
@@ -158,6 +159,7 @@ impl<'i, R: Rule> Target<'i, R> {
             (K.state disk.new)) }
         ensures writes { Writes (K.state disk.old) (K.state disk.new) result }
     {
+        // For the proof: these do nothing.
         a_store_goes_on_fitting::<K>();
         an_idle_store_works::<K>();
         let packet = packet_in(bytes);
@@ -170,7 +172,7 @@ impl<'i, R: Rule> Target<'i, R> {
 
     /// What came is dropped.
     fn pass_over(&self) -> Posts
-        ensures { Does nothing self.now self.now (posts_view result) }
+        ensures { TargetDoes nothing self.now self.now (posts_view result) }
     {
         // For the proof: the invariant is that of the session.
         let _waits = self.live.is_some();
@@ -182,7 +184,7 @@ impl<'i, R: Rule> Target<'i, R> {
     pub fn on_tick<K: Disk>(&mut self, _disk: &mut K) -> Result<Posts, Down>
         requires { IsRunning (K.state _disk.old) }
         ensures takes { (accepts : Accepts) → IfOk result (λ posts.
-            Takes accepts Ticks self.old self.new (posts_view posts)) }
+            TargetTakesEvent accepts Ticks self.old self.new (posts_view posts)) }
         ensures keeps_disk { (accepts : Accepts) (c : TargetContents)
             → AreKept c self.old.view → HoldsContents self.old.store (K.state _disk.old) c
             → KeepsDisk (K.state _disk.old) self.new.store (K.state _disk.new) c
@@ -192,12 +194,13 @@ impl<'i, R: Rule> Target<'i, R> {
             result }
         ensures store { OnOk result (Continues self.old.store self.new.store) }
     {
+        // For the proof: does nothing.
         an_idle_store_works::<K>();
         Ok(self.tick()?)
     }
 
     fn tick(&mut self) -> Result<Posts, NoMemory>
-        ensures does { IfOk result (λ posts. Does
+        ensures does { IfOk result (λ posts. TargetDoes
             (tick_decision self.old.view.end self.old.view.live)
             self.old self.new (posts_view posts)) }
         ensures store { OnOk result (Continues self.old.store self.new.store) }
@@ -217,7 +220,7 @@ impl<'i, R: Rule> Target<'i, R> {
     /// From now on requests ask for this block size, or for none.
     pub fn ask_blocks(&mut self, size: Option<u16>)
         ensures takes { (accepts : Accepts)
-            → Takes accepts (Learns size) self.old self.new [] }
+            → TargetTakesEvent accepts (Learns size) self.old self.new [] }
         ensures store { self.new.store ≡ self.old.store }
     {
         self.end.ask_size(size);
@@ -238,6 +241,7 @@ impl<'i, R: Rule> Target<'i, R> {
         ensures arriving { contents_arriving self.now.view.live ≤ self.now.held }
     {
         if let Some(session) = &self.live {
+            // For the proof: does nothing.
             session.keeps_little();
         }
     }
@@ -275,7 +279,7 @@ impl<'i, R: Rule> Target<'i, R> {
     /// The live session, if there is one, is over, perhaps for a reason. An installation that was
     /// begun is given up.
     fn end_session(&mut self, reason: Option<Reason>)
-        ensures does { Does (ending reason) self.old self.new [] }
+        ensures does { TargetDoes (ending reason) self.old self.new [] }
         ensures store { Continues self.old.store self.new.store }
         ensures rests { IsAtRest self.new.view.live }
     {
@@ -285,7 +289,7 @@ impl<'i, R: Rule> Target<'i, R> {
 
     /// The live session, if there is one, is over, so that another can begin.
     fn close(&mut self)
-        ensures closes { Keeps self.old self.new (with_live (end_with self.old.view
+        ensures closes { TargetKeeps self.old self.new (with_live (end_with self.old.view
             (view_after sides.Target self.old.view.end Stops)) None) }
         ensures store { Continues self.old.store self.new.store }
         ensures rests { IsAtRest self.new.view.live }
@@ -301,7 +305,7 @@ impl<'i, R: Rule> Target<'i, R> {
     /// A packet comes to port 59.
     fn on_request(&mut self, from: u16, packet: &Packet<'_>) -> Result<Posts, NoMemory>
         requires { IsInRange (packet_view packet.now) }
-        ensures does { IfOk result (λ posts. Does (request_decision self.old.view from
+        ensures does { IfOk result (λ posts. TargetDoes (request_decision self.old.view from
             (packet_view packet.now)) self.old self.new (posts_view posts)) }
         ensures store { OnOk result (Continues self.old.store self.new.store) }
         ensures work { OnOk result (KeepsWork self.old self.new) }
@@ -317,7 +321,7 @@ impl<'i, R: Rule> Target<'i, R> {
     /// any other is refused, unless the target is busy.
     fn give(&mut self, from: u16, name: &Name, options: Options) -> Result<Posts, NoMemory>
         requires { AreInRange options }
-        ensures does { IfOk result (λ posts. Does (read_decision self.old.view from name.now
+        ensures does { IfOk result (λ posts. TargetDoes (read_decision self.old.view from name.now
             options) self.old self.new (posts_view posts)) }
         ensures store { OnOk result (Continues self.old.store self.new.store) }
         ensures work { OnOk result (KeepsWork self.old self.new) }
@@ -352,7 +356,7 @@ impl<'i, R: Rule> Target<'i, R> {
 
     /// Refuses a request for a file that isn't there, unless a transfer is live.
     fn refuse(&self, from: u16) -> Result<Posts, NoMemory>
-        ensures { IfOk result (λ posts. Does (refusing self.now.view from)
+        ensures { IfOk result (λ posts. TargetDoes (refusing self.now.view from)
             self.now self.now (posts_view posts)) }
     {
         if self.end.is_busy() {
@@ -366,7 +370,8 @@ impl<'i, R: Rule> Target<'i, R> {
     /// is replaced, and its installation is given up.
     fn begin(&mut self, from: u16, kind: SessionKind, options: Options) -> Result<Posts, NoMemory>
         requires { AreInRange options }
-        ensures does { (name : List ℕ) → IfOk result (λ posts. Does (own_decision self.old.view from
+        ensures does { (name : List ℕ)
+            → IfOk result (λ posts. TargetDoes (own_decision self.old.view from
             (kind_given kind) name options) self.old self.new (posts_view posts)) }
         ensures store { OnOk result (Continues self.old.store self.new.store) }
         ensures work { OnOk result (KeepsWork self.old self.new) }
@@ -394,7 +399,7 @@ impl<'i, R: Rule> Target<'i, R> {
     /// Whether a request from this port is taken now. Only one from a fresh port is, and where no
     /// port is left for its transfer a live session ends.
     fn may_serve(&mut self, from: u16) -> bool
-        ensures serves { Serving result from self.old self.new }
+        ensures serves { TargetServes result from self.old self.new }
         ensures store { Continues self.old.store self.new.store }
         ensures work { KeepsWork self.old self.new }
     {
@@ -413,7 +418,8 @@ impl<'i, R: Rule> Target<'i, R> {
     /// A request to write a file: an LUR, where the row awaits it.
     fn accept(&mut self, from: u16, name: &Name, options: Options) -> Result<Posts, NoMemory>
         requires { AreInRange options }
-        ensures does { IfOk result (λ posts. Does (writing_decision self.old.view from name.now
+        ensures does { IfOk result (λ posts. TargetDoes (writing_decision self.old.view from
+            name.now
             options) self.old self.new (posts_view posts)) }
         ensures store { OnOk result (Continues self.old.store self.new.store) }
         ensures work { OnOk result (KeepsWork self.old self.new) }
@@ -455,11 +461,11 @@ impl<'i, R: Rule> Target<'i, R> {
     ) -> Result<Posts, Down>
         requires in_range { IsInRange (packet_view packet.now) }
         requires running { IsRunning (K.state disk.old) }
-        ensures does { (accepts : Accepts) → Follows R.may_say self.old.rule accepts
-            → IfOk result (λ posts. Does (transfer_decision accepts self.old.view
+        ensures does { (accepts : Accepts) → FollowsAccepts R.may_say self.old.rule accepts
+            → IfOk result (λ posts. TargetDoes (transfer_decision accepts self.old.view
             self.old.view.live from to (packet_view packet.now))
             self.old self.new (posts_view posts)) }
-        ensures brings { (accepts : Accepts) → Follows R.may_say self.old.rule accepts
+        ensures brings { (accepts : Accepts) → FollowsAccepts R.may_say self.old.rule accepts
             → (c : TargetContents) → AreKept c self.old.view
             → HoldsContents self.old.store (K.state disk.old) c
             → BringsContents (K.state disk.old) self.new.store (K.state disk.new) c
@@ -477,13 +483,13 @@ impl<'i, R: Rule> Target<'i, R> {
     /// What follows from the news of the live transfer.
     fn follow<K: Disk>(&mut self, disk: &mut K, news: &News<'_>) -> Result<Option<Datagram>, Down>
         requires running { IsRunning (K.state disk.old) }
-        ensures session { (accepts : Accepts) → Follows R.may_say self.old.rule accepts
-            → ForSome self.old.view.live (λ s. IfOk result (λ post. Does
+        ensures session { (accepts : Accepts) → FollowsAccepts R.may_say self.old.rule accepts
+            → ForSome self.old.view.live (λ s. IfOk result (λ post. TargetDoes
             (following accepts self.old.view s (news_view news.now))
             self.old self.new (posted post))) }
         ensures idle { self.old.view.live ≡ None → IfOk result (λ post.
             (posted post ≡ []) × (self.new ≡ self.old)) }
-        ensures brings { (accepts : Accepts) → Follows R.may_say self.old.rule accepts
+        ensures brings { (accepts : Accepts) → FollowsAccepts R.may_say self.old.rule accepts
             → (c : TargetContents) → AreKept c self.old.view
             → HoldsContents self.old.store (K.state disk.old) c
             → BringsContents (K.state disk.old) self.new.store (K.state disk.new) c
@@ -511,7 +517,7 @@ impl<'i, R: Rule> Target<'i, R> {
 
     /// Nothing follows.
     fn go_on(&self) -> Option<Datagram>
-        ensures does { Does nothing self.now self.now (posted result) }
+        ensures does { TargetDoes nothing self.now self.now (posted result) }
         ensures none { posted result ≡ [] }
     {
         // For the proof: the invariant is that of the session.
@@ -522,7 +528,7 @@ impl<'i, R: Rule> Target<'i, R> {
     /// More of a file arrives. Of a data or support file it goes straight to the other bank.
     fn take<K: Disk>(&mut self, disk: &mut K, payload: &[u8]) -> Result<(), Down>
         requires running { IsRunning (K.state disk.old) }
-        ensures takes { OnOk result (Keeps self.old self.new
+        ensures takes { OnOk result (TargetKeeps self.old self.new
             (with_live self.old.view (continued self.old.view.live payload.now))) }
         ensures idle { self.old.view.live ≡ None → OnOk result (self.new ≡ self.old) }
         ensures calm { OnOk result (IsCalm self.new.view.live) }
@@ -554,13 +560,13 @@ impl<'i, R: Rule> Target<'i, R> {
     /// A transfer of the live session is over, perhaps by an ERROR.
     fn turn<K: Disk>(&mut self, disk: &mut K, error: Option<u16>) -> Result<Option<Datagram>, Down>
         requires running { IsRunning (K.state disk.old) }
-        ensures session { (accepts : Accepts) → Follows R.may_say self.old.rule accepts
-            → ForSome self.old.view.live (λ s. IfOk result (λ post. Does
+        ensures session { (accepts : Accepts) → FollowsAccepts R.may_say self.old.rule accepts
+            → ForSome self.old.view.live (λ s. IfOk result (λ post. TargetDoes
             (turn_decision accepts self.old.view s [] [] error)
             self.old self.new (posted post))) }
         ensures idle { self.old.view.live ≡ None → IfOk result (λ post.
             (posted post ≡ []) × (self.new ≡ self.old)) }
-        ensures brings { (accepts : Accepts) → Follows R.may_say self.old.rule accepts
+        ensures brings { (accepts : Accepts) → FollowsAccepts R.may_say self.old.rule accepts
             → (c : TargetContents) → AreKept c self.old.view
             → HoldsContents self.old.store (K.state disk.old) c
             → BringsContents (K.state disk.old) self.new.store (K.state disk.new) c
@@ -582,10 +588,10 @@ impl<'i, R: Rule> Target<'i, R> {
     /// The live session turns to its next row, for which nothing is asked yet, or is over.
     fn turn_row<K: Disk>(&mut self, disk: &mut K, error: Option<u16>) -> Result<(), Down>
         requires running { IsRunning (K.state disk.old) }
-        ensures session { (accepts : Accepts) → Follows R.may_say self.old.rule accepts
-            → ForSome self.old.view.live (λ s. OnOk result (Keeps self.old self.new
+        ensures session { (accepts : Accepts) → FollowsAccepts R.may_say self.old.rule accepts
+            → ForSome self.old.view.live (λ s. OnOk result (TargetKeeps self.old self.new
             (in_next_row self.old.view (row_then accepts self.old.view.active s error)))) }
-        ensures brings { (accepts : Accepts) → Follows R.may_say self.old.rule accepts
+        ensures brings { (accepts : Accepts) → FollowsAccepts R.may_say self.old.rule accepts
             → (s : StandingView) (x : SessionContents)
             → self.old.view.live ≡ Some (session_kept x)
             → InstallsRow self.old.store (K.state disk.old) s x.row x.arrived
@@ -638,7 +644,7 @@ impl<'i, R: Rule> Target<'i, R> {
         ensures makes { ForSome self.old.view.live (λ s. IfOk result (λ post. Makes sides.Target
             (asked_by (row_request self.old.view s.row)) self.old.view.end self.new.view.end
             (posted post))) }
-        ensures rest { OnOk result (Keeps self.old self.new
+        ensures rest { OnOk result (TargetKeeps self.old self.new
             (end_with self.old.view self.new.view.end)) }
         ensures store { OnOk result (self.new.store ≡ self.old.store) }
     {

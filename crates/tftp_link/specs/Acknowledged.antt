@@ -5,7 +5,7 @@ use Rattle.std.specs.List.{AllByRecursion}
 use Rattle.tftp_packet.specs.declared.options.Options.{Options}
 use Rattle.tftp_packet.specs.Packets.{PacketView, Ack, Error, Oack}
 use Rattle.tftp_link.specs.Negotiation.{may_grant, fits_said}
-use Rattle.tftp_link.specs.Arrival.{IsError, BeginsWithError}
+use Rattle.tftp_link.specs.Arrival.{IsErrorPacket, BeginsWithError}
 
 -- the packet may be the first answer to a request to write a file of this length with these options
 abbrev pub answers_write : (file_length : ℕ) → Options → PacketView → Bool
@@ -15,13 +15,13 @@ answers_write file_length asked (Error code message) = true
 answers_write file_length asked packet = false
 
 -- the packet acknowledges block k
-abbrev pub IsAck : (k : ℕ) → PacketView → Type 0
-IsAck k (Ack block) = block ≡ k
-IsAck k packet = ⊥
+abbrev pub AcknowledgesBlock : (k : ℕ) → PacketView → Type 0
+AcknowledgesBlock k (Ack block) = block ≡ k
+AcknowledgesBlock k packet = ⊥
 
 -- the packet neither acknowledges block k nor ends the transfer
 abbrev pub PassesAck : (k : ℕ) → PacketView → Type 0
-PassesAck k packet = (IsError packet → ⊥) × (IsAck k packet → ⊥)
+PassesAck k packet = (IsErrorPacket packet → ⊥) × (AcknowledgesBlock k packet → ⊥)
 
 -- From block k on, this many blocks of a file with this many were acknowledged: their ACKs stand among the packets, each the
 -- first of its number after the one before, up to that of the last block, an ERROR or the end.

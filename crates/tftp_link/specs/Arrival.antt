@@ -30,9 +30,9 @@ bound_size packets = 512
 -- ---- what arrived
 
 -- the packet is an ERROR
-abbrev pub IsError : PacketView → Type 0
-IsError (Error code message) = Unit {0}
-IsError packet = ⊥
+abbrev pub IsErrorPacket : PacketView → Type 0
+IsErrorPacket (Error code message) = Unit {0}
+IsErrorPacket packet = ⊥
 
 -- the packet carries block k
 abbrev pub IsBlock : (size k : ℕ) → PacketView → Type 0
@@ -40,21 +40,21 @@ IsBlock size k (Data block payload) = (block ≡ k) × (is_block size k payload 
 IsBlock size k packet = ⊥
 
 -- the packet neither carries block k nor ends the transfer
-abbrev pub Passes : (size k : ℕ) → PacketView → Type 0
-Passes size k packet = (IsError packet → ⊥) × (IsBlock size k packet → ⊥)
+abbrev pub PassesBlock : (size k : ℕ) → PacketView → Type 0
+PassesBlock size k packet = (IsErrorPacket packet → ⊥) × (IsBlock size k packet → ⊥)
 
 -- nothing follows, or an ERROR first
 abbrev pub BeginsWithError : List PacketView → Type 0
 BeginsWithError [] = Unit {0}
-BeginsWithError (packet ∷ packets) = IsError packet
+BeginsWithError (packet ∷ packets) = IsErrorPacket packet
 
 -- From block k on, blocks with these payloads stand among the packets, each the first of its number after the one before,
 -- up to a short one, an ERROR or the end.
 abbrev pub Stand : (size k : ℕ) → List PacketView → List (List ℕ) → Type 0
 Stand size k packets [] =
-    (before : List PacketView) × (rest : List PacketView) × (packets ≡ before ++ rest) × AllByRecursion (Passes size k) before × BeginsWithError rest
+    (before : List PacketView) × (rest : List PacketView) × (packets ≡ before ++ rest) × AllByRecursion (PassesBlock size k) before × BeginsWithError rest
 Stand size k packets (payload ∷ payloads) =
-    (before : List PacketView) × (rest : List PacketView) × (packets ≡ before ++ Data k payload ∷ rest) × AllByRecursion (Passes size k) before
+    (before : List PacketView) × (rest : List PacketView) × (packets ≡ before ++ Data k payload ∷ rest) × AllByRecursion (PassesBlock size k) before
     × (is_block size k payload ≡ true) × MatchBool (nat_lt (length payload) size) (payloads ≡ []) (Stand size (k + 1) rest payloads)
 
 -- the last of these payloads is shorter than the block size

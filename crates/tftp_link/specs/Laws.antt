@@ -20,8 +20,8 @@ lent r [] = []
 lent r (packet ∷ packets) = lent_by (receiver_answer r packet) ++ lent (receiver_after r packet) packets
 
 -- some file arrived whole
-abbrev pub IsWhole : (size : ℕ) → List PacketView → Type 0
-IsWhole size packets = (bytes : List ℕ) × Arrived size packets bytes
+abbrev pub IsWholeFile : (size : ℕ) → List PacketView → Type 0
+IsWholeFile size packets = (bytes : List ℕ) × Arrived size packets bytes
 
 -- After these packets a receiving end lent what arrived among those of the transfer, and knows how many blocks that are,
 -- the block size, and whether the file is whole.
@@ -29,7 +29,7 @@ pub record ReceivesArrived (begin : Receiver) (got : List PacketView) (size : �
   pub arrived : ArrivedSoFar size packets (concat (lent begin got))
   pub counted : (payloads : List (List ℕ)) → Stand size 1 packets payloads → (receiver_after_all begin got).taken ≡ length payloads
   pub sized : (receiver_after_all begin got).size ≡ size
-  pub whole : ((receiver_after_all begin got).phase ≡ Finished) ↔ IsWhole size packets
+  pub whole : ((receiver_after_all begin got).phase ≡ Finished) ↔ IsWholeFile size packets
 
 -- of one that took a request to write
 abbrev pub ServedWriteArrives : Type 0
@@ -41,24 +41,24 @@ AskedReadArrives = (name : List ℕ) (asked : Options) (got : List PacketView)
     → ReceivesArrived (receiver_asking name asked) got (bound_size (from_first (answers_read asked) got)) (from_first (answers_read asked) got)
 
 -- the packet brings the last block
-abbrev pub IsLast : Answer → Type 0
-IsLast (TakesLast payload) = Unit {0}
-IsLast answer = ⊥
+abbrev pub BringsLastBlock : Answer → Type 0
+BringsLastBlock (TakesLast payload) = Unit {0}
+BringsLastBlock answer = ⊥
 
 -- Last comes exactly with the packet that makes the file whole: to one that took a request,
 abbrev pub ServedLastMakesWhole : Type 0
 ServedLastMakesWhole = (asked : Options) (got : List PacketView) (packet : PacketView)
-    → IsLast (receiver_answer (receiver_after_all (receiver_serving asked) got) packet)
-    ↔ ((IsWhole (block_size_of asked) got → ⊥) × IsWhole (block_size_of asked) (got ++ packet ∷ []))
+    → BringsLastBlock (receiver_answer (receiver_after_all (receiver_serving asked) got) packet)
+    ↔ ((IsWholeFile (block_size_of asked) got → ⊥) × IsWholeFile (block_size_of asked) (got ++ packet ∷ []))
 
 -- the packets that were got make the file whole that was asked for
 abbrev pub IsReadWhole : Options → List PacketView → Type 0
-IsReadWhole asked got = IsWhole (bound_size (from_first (answers_read asked) got)) (from_first (answers_read asked) got)
+IsReadWhole asked got = IsWholeFile (bound_size (from_first (answers_read asked) got)) (from_first (answers_read asked) got)
 
 -- and to one that asked.
 abbrev pub AskedLastMakesWhole : Type 0
 AskedLastMakesWhole = (name : List ℕ) (asked : Options) (got : List PacketView) (packet : PacketView)
-    → IsLast (receiver_answer (receiver_after_all (receiver_asking name asked) got) packet)
+    → BringsLastBlock (receiver_answer (receiver_after_all (receiver_asking name asked) got) packet)
     ↔ ((IsReadWhole asked got → ⊥) × IsReadWhole asked (got ++ packet ∷ []))
 
 -- What one that took a request sent last: the ACK of the last block that arrived, and before the first its answer.
@@ -130,14 +130,14 @@ abbrev pub SendsItsFile : Type 0
 SendsItsFile = (s : Sender) → IsOfFile s.file s.size (sender_packet s)
 
 -- the packet is the ACK of the last block
-abbrev pub IsDone : Answer → Type 0
-IsDone Completes = Unit {0}
-IsDone answer = ⊥
+abbrev pub IsLastAck : Answer → Type 0
+IsLastAck Completes = Unit {0}
+IsLastAck answer = ⊥
 
 -- Done comes exactly with the packet with which the transfer is done, and so with the ACK of the last block.
 abbrev pub DoneWithTheLastAck : Type 0
 DoneWithTheLastAck = (begin : Sender) (got : List PacketView) (packet : PacketView)
-    → IsDone (sender_answer (sender_after_all begin got) packet)
+    → IsLastAck (sender_answer (sender_after_all begin got) packet)
     ↔ (((sender_after_all begin got).phase ≡ Finished → ⊥) × ((sender_after_all begin (got ++ packet ∷ [])).phase ≡ Finished))
 
 -- ---- what comes again, early or late
@@ -168,15 +168,15 @@ IsErrorOf code (Error found message) = found ≡ code
 IsErrorOf code packet = ⊥
 
 -- the transfer fails with this code
-abbrev pub IsFailure : (code : ℕ) → Answer → Type 0
-IsFailure code (Fails found) = found ≡ code
-IsFailure code answer = ⊥
+abbrev pub FailsWith : (code : ℕ) → Answer → Type 0
+FailsWith code (Fails found) = found ≡ code
+FailsWith code answer = ⊥
 
 -- PeerError comes exactly at an ERROR that comes before the transfer is over, at either end.
 abbrev pub ReceiverFailsAtError : Type 0
 ReceiverFailsAtError = (r : Receiver) (packet : PacketView) (code : ℕ)
-    → IsFailure code (receiver_answer r packet) ↔ ((is_live r.phase ≡ true) × IsErrorOf code packet)
+    → FailsWith code (receiver_answer r packet) ↔ ((is_live r.phase ≡ true) × IsErrorOf code packet)
 
 abbrev pub SenderFailsAtError : Type 0
 SenderFailsAtError = (s : Sender) (packet : PacketView) (code : ℕ)
-    → IsFailure code (sender_answer s packet) ↔ ((is_live s.phase ≡ true) × IsErrorOf code packet)
+    → FailsWith code (sender_answer s packet) ↔ ((is_live s.phase ≡ true) × IsErrorOf code packet)

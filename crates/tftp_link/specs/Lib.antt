@@ -6,7 +6,3 @@ pub mod Sender
 pub mod Arrival
 pub mod Acknowledged
 pub mod Laws
-pub mod ArrivalLaws
-pub mod AckLaws
-pub mod FileLaws
-pub mod RepeatLaws

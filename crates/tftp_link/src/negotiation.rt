@@ -1,7 +1,7 @@
 //! The negotiation of options: RFC 2347, RFC 2348, RFC 2349.
-ghost use Rattle.std.specs.Prelude.{◌≡◌, ◌+◌, ◌/◌, ◌≤◌, IfSome};
+ghost use Rattle.std.specs.Prelude.{◌≡◌, ◌/◌, ◌≤◌, IfSome};
 ghost use Rattle.tftp_link.specs.Negotiation.{is_empty, block_size_of, fits, fits_said, fitting};
-ghost use Rattle.tftp_link.specs.Negotiation.{was_asked, is_no_greater, may_grant};
+ghost use Rattle.tftp_link.specs.Negotiation.{is_no_greater, may_grant};
 ghost use Rattle.tftp_link.specs.Negotiation.{granted_to_reader, asked_by_writer, same_options};
 ghost use Rattle.tftp_packet.specs.Options.{AreInRange};
 

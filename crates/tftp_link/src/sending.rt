@@ -4,7 +4,7 @@ ghost use Rattle.tftp_packet.specs.Options.{AreInRange};
 ghost use Rattle.tftp_packet.specs.Packets.{Ack, Oack, Error, packet_view, IsInRange};
 ghost use Rattle.tftp_link.specs.Answers.{Nothing, is_awaited_by, is_sent_by, news_by, news_view};
 ghost use Rattle.tftp_link.specs.Negotiation.{may_grant, fits_said, block_count};
-ghost use Rattle.tftp_link.specs.Sender.{contents, sender_asking, sender_serving, sender_granting};
+ghost use Rattle.tftp_link.specs.Sender.{contents, sender_asking, sender_serving};
 ghost use Rattle.tftp_link.specs.Sender.{sender_answer, sender_moved, sender_after, sender_first};
 ghost use Rattle.tftp_link.specs.Sender.{sender_packet, awaited_answer, data_of, with_next};
 

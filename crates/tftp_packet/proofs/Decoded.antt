@@ -4,13 +4,13 @@ use Rattle.std.specs.Prelude.{IfOk, IfErr}
 use Rattle.field_grammar.specs.Answers.{answer}
 use Rattle.field_grammar.specs.Cursor.{Cursor, start}
 use Rattle.field_grammar.specs.Grammar.{IsBytes, Fault, read, ◌then◌}
-use Rattle.field_grammar.specs.ExactLaws.{answer-spelled, answer-fault, answer_is_spelled, answer_is_fault, spelled_at_start, spelled_whole}
+use Rattle.field_grammar.proofs.ExactLemmas.{answer-spelled, answer-fault, answer_is_spelled, answer_is_fault, spelled_at_start, spelled_whole}
 use Rattle.tftp_packet.specs.declared.fault.PacketFault.{PacketFault}
 use Rattle.tftp_packet.specs.declared.packet.Packet.{Packet}
 use Rattle.tftp_packet.specs.Packets.{PacketView, packet_view, seen, IsInRange, IsTyped, PacketSpells, packet, packet_bytes}
 use Rattle.tftp_packet.specs.Reading.{ReadsOn}
-use Rattle.tftp_packet.specs.SpelledLaws.{packet_is, packet_from, ends-packet}
-use Rattle.tftp_packet.specs.PacketLaws.{spelled_in_range, spelled_typed, written_spells}
+use Rattle.tftp_packet.proofs.SpelledLemmas.{packet_is, packet_from, ends-packet}
+use Rattle.tftp_packet.proofs.PacketLemmas.{spelled_in_range, spelled_typed, written_spells}
 
 abbrev to_the_end : Cursor → Result PacketView PacketFault
 to_the_end c = read packet c then (λ x. Ok x.0)

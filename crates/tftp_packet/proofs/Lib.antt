@@ -1,2 +1,10 @@
 pub mod Rest
 pub mod Decoded
+pub mod BodyLemmas
+pub mod CaseLemmas
+pub mod KeptLemmas
+pub mod NameLemmas
+pub mod NumberLemmas
+pub mod PacketLemmas
+pub mod PairLemmas
+pub mod SpelledLemmas

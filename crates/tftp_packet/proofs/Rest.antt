@@ -4,8 +4,8 @@ use Rattle.std.specs.Prelude.{◌==◌}
 use Rattle.std.proofs.lemmas.Bool.{ne_eqb, cases_lt}
 use Rattle.field_grammar.specs.Cursor.{Cursor, advanced}
 use Rattle.field_grammar.specs.Grammar.{Grammar, give, check, read, zero_ended_at, before_zero, ◌then◌, ◌>>=◌, ◌>>◌}
-use Rattle.field_grammar.specs.MoveLaws.{fewer_left}
-use Rattle.field_grammar.specs.StepLaws.{then_ok, same_value}
+use Rattle.field_grammar.proofs.MoveLemmas.{fewer_left}
+use Rattle.field_grammar.proofs.StepLemmas.{then_ok, same_value}
 use Rattle.tftp_packet.specs.declared.fault.PacketFault.{PacketFault}
 use Rattle.tftp_packet.specs.declared.fault.PacketFault.TheVariants as faults
 use Rattle.tftp_packet.specs.declared.options.Options.{Options}

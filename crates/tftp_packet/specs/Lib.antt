@@ -1,11 +1,3 @@
 pub mod Options
 pub mod Packets
 pub mod Reading
-pub mod NumberLaws
-pub mod CaseLaws
-pub mod NameLaws
-pub mod KeptLaws
-pub mod PairLaws
-pub mod BodyLaws
-pub mod SpelledLaws
-pub mod PacketLaws

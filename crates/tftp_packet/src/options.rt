@@ -99,7 +99,7 @@ impl Known {
 }
 
 /// The number that decimal digits write, zeros leading or not, if it is in the range.
-#[tactic(auto, using(crate::specs::NumberLaws::narrowed, crate::specs::NumberLaws::narrowed_none))]
+#[tactic(auto, using(crate::proofs::NumberLemmas::narrowed, crate::proofs::NumberLemmas::narrowed_none))]
 fn number_between(low: u32, high: u32, digits: &[u8]) -> Option<u32>
     ensures value { result ≡ number_between low high digits.now }
     ensures small { IfSome result (λ n. n ≤ high) }
@@ -112,7 +112,7 @@ fn number_between(low: u32, high: u32, digits: &[u8]) -> Option<u32>
     }
 }
 
-#[tactic(auto, using(crate::specs::NumberLaws::no_digits, crate::specs::NumberLaws::digits_are_utf8, crate::specs::NumberLaws::parsed))]
+#[tactic(auto, using(crate::proofs::NumberLemmas::no_digits, crate::proofs::NumberLemmas::digits_are_utf8, crate::proofs::NumberLemmas::parsed))]
 fn number(digits: &[u8]) -> Option<u32>
     ensures { result ≡ number_between 0 4294967295 digits.now }
 {

@@ -1,5 +1,5 @@
 //! The packets of TFTP.
-ghost use Rattle.std.specs.Prelude.{◌≡◌, ◌≤◌, List, ℕ, length, IfOk, IfErr, Ok, Err};
+ghost use Rattle.std.specs.Prelude.{◌≡◌, IfOk, IfErr, Ok, Err};
 ghost use Rattle.field_grammar.specs.Answers.{answer};
 ghost use Rattle.field_grammar.specs.Grammar.{Fault};
 ghost use Rattle.tftp_packet.specs.declared.fault.PacketFault.{PacketFault};

@@ -1,5 +1,5 @@
 //! Reads what stands after the opcodes of packets, field by field from left to right.
-ghost use Rattle.std.specs.Prelude.{◌≡◌, ◌<◌, length, IfOk};
+ghost use Rattle.std.specs.Prelude.{◌≡◌, ◌<◌, length};
 ghost use Rattle.field_grammar.specs.Grammar.{ended};
 ghost use Rattle.load_base.specs.Verdicts.{verdict, name_fault_of};
 ghost use Rattle.tftp_packet.specs.declared.fault.PacketFault.TheVariants as faults;
@@ -89,7 +89,7 @@ fn take_name(reader: &mut Reader) -> Result<Name, PacketFault>
     Ok(name)
 }
 
-#[tactic(auto, using(load_base::specs::VerdictLaws::read_judged, load_base::specs::VerdictLaws::refused_judged))]
+#[tactic(auto, using(load_base::proofs::VerdictLemmas::read_judged, load_base::proofs::VerdictLemmas::refused_judged))]
 fn name_of(text: &[u8]) -> Result<Name, PacketFault>
     ensures { result ≡ verdict faults.Name (name_fault_of text.now) text.now }
 {

@@ -13,7 +13,7 @@ use Rattle.transfer_end.specs.Moves.{datagram}
 use Rattle.transfer_end.specs.Packets.{is_busy, is_fresh, packet_in, transfer_moves, wanted_options}
 use Rattle.transfer_end.specs.Transfers.{LinkEnd, Receives, Sends, end_answer, end_packet}
 use Rattle.transfer_end.specs.Views.{EndView}
-use Rattle.transfer_completion.specs.Positions.{IsBehind, IsPast, IsRunning, Position, StandsIn}
+use Rattle.transfer_completion.specs.Positions.{IsBehind, IsPast, IsEndRunning, Position, StandsIn}
 use Rattle.transfer_completion.specs.Replies.{AreQuiet, IsOldPacket, IsReplyTo, acknowledges}
 use Rattle.transfer_completion.specs.Talks.{FitsBlocks, Talk, left_down, left_up, taken_of}
 use Rattle.load_base.specs.Name.{IsName}
@@ -59,7 +59,7 @@ SenderGoesOn = (file : List ℕ) (s : Sender) (r : Receiver) (p : PacketView) �
 -- ---- where the transfer stands
 
 -- The receiving end took the last block, and acknowledges it.
-pub record IsWhole (file : List ℕ) (s : Sender) (r : Receiver) (p : PacketView) : Type 0 where
+pub record TookLastBlock (file : List ℕ) (s : Sender) (r : Receiver) (p : PacketView) : Type 0 where
   pub running : s.phase ≡ Running
   pub of_file : s.file ≡ file
   pub size : r.size ≡ s.size
@@ -70,7 +70,7 @@ pub record IsWhole (file : List ℕ) (s : Sender) (r : Receiver) (p : PacketView
   pub taken : taken_of file r ≡ file
 
 abbrev pub FinishedIsWhole : Type 0
-FinishedIsWhole = (file : List ℕ) (s : Sender) (r : Receiver) (p : PacketView) → Talk file s r false p → r.phase ≡ Finished → IsWhole file s r p
+FinishedIsWhole = (file : List ℕ) (s : Sender) (r : Receiver) (p : PacketView) → Talk file s r false p → r.phase ≡ Finished → TookLastBlock file s r p
 
 -- The numbers of blocks fit their two bytes, and what is on its way is read as what was sent.
 abbrev pub TakenIsSmall : Type 0
@@ -107,7 +107,7 @@ IsStale side own peer end p a = (a ≡ Dropped) ⊎ ((a ≡ Again) × IsNoAck p 
 
 -- What came in a transfer before what comes next is stale in it.
 abbrev pub BehindIsStale : Type 0
-BehindIsStale = (side : Side) (own peer : ℕ) (end : LinkEnd) (p : PacketView) → IsRunning end → IsBehind end p → IsStale side own peer end p (end_answer end p)
+BehindIsStale = (side : Side) (own peer : ℕ) (end : LinkEnd) (p : PacketView) → IsEndRunning end → IsBehind end p → IsStale side own peer end p (end_answer end p)
 
 -- ---- what was posted to an end before
 

@@ -4,10 +4,3 @@ pub mod Positions
 pub mod Laws
 pub mod Steps
 pub mod Retries
-pub mod BlockLaws
-pub mod TalkLaws
-pub mod StaleLaws
-pub mod ReplyLaws
-pub mod PastLaws
-pub mod MoveLaws
-pub mod RetryLaws

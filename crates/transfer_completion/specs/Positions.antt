@@ -50,12 +50,12 @@ IsLast posts None last = Unit {0}
 IsLast posts (Some d) last = (last ≡ Some d) × Contains posts d
 
 -- the transfer isn't over, and there is a number for what it sends
-abbrev pub IsRunning : LinkEnd → Type 0
-IsRunning (Receives r) = (r.phase ≡ Running) × (r.taken < 65536)
-IsRunning (Sends s) = s.phase ≡ Running
+abbrev pub IsEndRunning : LinkEnd → Type 0
+IsEndRunning (Receives r) = (r.phase ≡ Running) × (r.taken < 65536)
+IsEndRunning (Sends s) = s.phase ≡ Running
 
 abbrev pub IsUnderway : Position → Type 0
-IsUnderway (IsIn end) = IsRunning end
+IsUnderway (IsIn end) = IsEndRunning end
 IsUnderway position = Unit {0}
 
 abbrev pub IsReceiving : LinkEnd → Type 0
@@ -63,9 +63,9 @@ IsReceiving (Receives r) = Unit {0}
 IsReceiving (Sends s) = ⊥
 
 -- the kept transfer is one from before, or one of these, the last acknowledgement of which was posted
-abbrev pub IsKept : Side → List DatagramView → (own peer count : ℕ) → Option TransferView → Type 0
-IsKept side posts own peer count None = Unit {0}
-IsKept side posts own peer count (Some t) = (t.own < own) ⊎ ((j : ℕ) × (j < count) × (t.own ≡ own + j) × (t.peer ≡ Some (peer + j)) × IsReceiving t.end
+abbrev pub IsKeptTransfer : Side → List DatagramView → (own peer count : ℕ) → Option TransferView → Type 0
+IsKeptTransfer side posts own peer count None = Unit {0}
+IsKeptTransfer side posts own peer count (Some t) = (t.own < own) ⊎ ((j : ℕ) × (j < count) × (t.own ≡ own + j) × (t.peer ≡ Some (peer + j)) × IsReceiving t.end
     × Contains posts (datagram side (own + j) (peer + j) (end_packet t.end)) × (acknowledges (datagram side (own + j) (peer + j) (end_packet t.end)) ≡ true))
 
 -- An end that stands so in transfer i, or before it where it rests, after these posts of both ends.
@@ -75,7 +75,7 @@ pub record StandsIn (side : Side) (posts : List DatagramView) (own peer i : ℕ)
   pub live : v.live ≡ live_at position (own + i) (peer + i)
   pub last : IsLast posts (last_at side position (own + i) (peer + i)) v.last
   pub underway : IsUnderway position
-  pub kept : IsKept side posts own peer (drawn position i) v.kept
+  pub kept : IsKeptTransfer side posts own peer (drawn position i) v.kept
 
 -- ---- what came to such an end
 

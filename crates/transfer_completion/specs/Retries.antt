@@ -26,13 +26,13 @@ abbrev pub retries_after : Side → EndView → List Move → ℕ → ℕ
 retries_after side v [] retries = retries
 retries_after side v (move ∷ moves) retries = retries_after side (view_after side v move) moves (retries_by v move retries)
 
-abbrev pub IsNoTick : Move → Type 0
-IsNoTick Repeats = ⊥
-IsNoTick move = Unit {0}
+abbrev pub IsNoRepeat : Move → Type 0
+IsNoRepeat Repeats = ⊥
+IsNoRepeat move = Unit {0}
 
 abbrev pub NoTicks : List Move → Type 0
 NoTicks [] = Unit {0}
-NoTicks (move ∷ moves) = IsNoTick move × NoTicks moves
+NoTicks (move ∷ moves) = IsNoRepeat move × NoTicks moves
 
 -- But for ticks, an end does the same and posts the same whatever its retries are.
 abbrev pub MovesDoTheSame : Type 0

@@ -10,7 +10,7 @@ use Rattle.tftp_link.specs.Sender.{Sender, sender_answer}
 use Rattle.transfer_end.specs.Transfers.{Role, Reads, LinkEnd, Receives, Sends, begin_of, end_answer, end_moved, end_packet}
 use Rattle.transfer_end.specs.Views.{EndView, TransferView}
 use Rattle.transfer_end.specs.Moves.{Hears, Asks, Serves, datagram, posts_of, view_after}
-use Rattle.transfer_completion.specs.Positions.{Position, Rests, HasAsked, IsIn, live_at, IsRunning, StandsIn}
+use Rattle.transfer_completion.specs.Positions.{Position, Rests, HasAsked, IsIn, live_at, IsEndRunning, StandsIn}
 use Rattle.transfer_completion.specs.Replies.{acknowledges}
 
 -- the transfer goes on at the packet
@@ -39,20 +39,20 @@ AsksFromRest = (side : Side) (posts : List DatagramView) (own peer i : ℕ) (v :
 
 -- An end at rest takes a request.
 abbrev pub ServesFromRest : Type 0
-ServesFromRest = (side : Side) (posts : List DatagramView) (own peer i : ℕ) (v : EndView) (role : Role) → StandsIn side posts own peer i Rests v → IsRunning (begin_of role)
+ServesFromRest = (side : Side) (posts : List DatagramView) (own peer i : ℕ) (v : EndView) (role : Role) → StandsIn side posts own peer i Rests v → IsEndRunning (begin_of role)
     → StandsIn side (posts ++ posts_of side v (Serves (peer + i) role)) own peer i (IsIn (begin_of role)) (view_after side v (Serves (peer + i) role))
 
 -- The first answer to its request binds its transfer.
 abbrev pub Binds : Type 0
 Binds = (side : Side) (posts : List DatagramView) (own peer i : ℕ) (role : Role) (v : EndView) (p : PacketView)
-    → IsGoing (end_answer (begin_of role) p) → IsRunning (end_moved (begin_of role) (end_answer (begin_of role) p)) → StandsIn side posts own peer i (HasAsked role) v
+    → IsGoing (end_answer (begin_of role) p) → IsEndRunning (end_moved (begin_of role) (end_answer (begin_of role) p)) → StandsIn side posts own peer i (HasAsked role) v
     → StandsIn side (posts ++ posts_of side (placed v (HasAsked role) own peer i) (Hears (peer + i) p)) own peer i (IsIn (end_moved (begin_of role) (end_answer (begin_of role) p)))
     (view_after side (placed v (HasAsked role) own peer i) (Hears (peer + i) p))
 
 -- A packet moves its transfer.
 abbrev pub MovesItsTransfer : Type 0
 MovesItsTransfer = (side : Side) (posts : List DatagramView) (own peer i : ℕ) (end : LinkEnd) (v : EndView) (p : PacketView)
-    → IsGoing (end_answer end p) → IsRunning (end_moved end (end_answer end p)) → StandsIn side posts own peer i (IsIn end) v
+    → IsGoing (end_answer end p) → IsEndRunning (end_moved end (end_answer end p)) → StandsIn side posts own peer i (IsIn end) v
     → StandsIn side (posts ++ posts_of side (placed v (IsIn end) own peer i) (Hears (peer + i) p)) own peer i (IsIn (end_moved end (end_answer end p)))
     (view_after side (placed v (IsIn end) own peer i) (Hears (peer + i) p))
 

@@ -5,7 +5,8 @@ ghost use Rattle.transfer_completion.specs.Laws.{PastRequestIsSpent, ReadingBegi
 ghost use Rattle.transfer_completion.specs.Laws.{ReceiverGoesOn, RequestsAreRead, SenderGoesOn};
 ghost use Rattle.transfer_completion.specs.Laws.{TakenIsSmall, TalkIsRead, WritingBegins};
 ghost use Rattle.transfer_completion.specs.Retries.{MovesDoTheSame};
-ghost use Rattle.transfer_completion.specs.Steps.{AsksFromRest, Binds, BindsWithTheLast, MovesItsTransfer};
+ghost use Rattle.transfer_completion.specs.Steps.{AsksFromRest, Binds, BindsWithTheLast};
+ghost use Rattle.transfer_completion.specs.Steps.{MovesItsTransfer};
 ghost use Rattle.transfer_completion.specs.Steps.{LastIsAcknowledged, MorePosts, ServesFromRest};
 ghost use Rattle.transfer_completion.specs.Steps.{TakesTheLast};
 
@@ -25,21 +26,21 @@ pub fn a_packet_on_its_way_moves_its_transfer()
 {}
 
 /// What is on its way is read as what was sent, and so is the request of a named file.
-/// `specs/TalkLaws.antt` says the same to proofs.
+/// `proofs/TalkLemmas.antt` says the same to proofs.
 pub fn what_is_on_its_way_is_read()
     ensures packets { TalkIsRead }
     ensures requests { RequestsAreRead }
 {}
 
 /// What came to an end of a transfer before is dropped, or is no acknowledgement and answered with
-/// the last one. `specs/StaleLaws.antt` says the same to proofs.
+/// the last one. `proofs/StaleLemmas.antt` says the same to proofs.
 pub fn what_came_before_is_stale()
     ensures { BehindIsStale }
 {}
 
 /// Whatever was posted to an end before the datagram that is next there, in this transfer or an
 /// earlier one, changes nothing there: nothing answers it, or one datagram that was posted before
-/// and has less weight. `specs/PastLaws.antt` says the same to proofs.
+/// and has less weight. `proofs/PastLemmas.antt` says the same to proofs.
 pub fn what_was_posted_before_changes_nothing()
     ensures packet { PastIsQuiet }
     // A request among it comes from a port that was accepted, or while the end is busy.
@@ -47,7 +48,7 @@ pub fn what_was_posted_before_changes_nothing()
 {}
 
 /// How an end stands after each move of a session of which nothing is lost, where transfer i has
-/// the i-th own port of either end. `specs/MoveLaws.antt` says the same to proofs.
+/// the i-th own port of either end. `proofs/MoveLemmas.antt` says the same to proofs.
 pub fn ends_go_from_transfer_to_transfer()
     // From one transfer to the next.
     ensures asks { AsksFromRest }
@@ -63,8 +64,8 @@ pub fn ends_go_from_transfer_to_transfer()
     ensures more { MorePosts }
 {}
 
-/// But for ticks, an end does and posts the same whatever its retries are. `specs/RetryLaws.antt`
-/// says the same to proofs.
+/// But for ticks, an end does and posts the same whatever its retries are.
+/// `proofs/RetryLemmas.antt` says the same to proofs.
 pub fn retries_matter_at_ticks_alone()
     ensures { MovesDoTheSame }
 {}

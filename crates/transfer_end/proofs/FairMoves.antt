@@ -13,15 +13,15 @@ use Rattle.exchange_trace.specs.declared.trace.Side.{Side}
 use Rattle.exchange_trace.specs.Happenings.{DatagramView}
 use Rattle.exchange_trace.specs.Logs.{Event, Gets, Learns, Starts_info, Starts_upload, Ticks}
 use Rattle.transfer_end.specs.Came.{HeardIn}
-use Rattle.transfer_end.specs.CameLaws.{all_mapped}
+use Rattle.transfer_end.proofs.CameLemmas.{all_mapped}
 use Rattle.transfer_end.specs.Laws.{IsLive}
 use Rattle.transfer_end.specs.Moves.{Asks, Asks_size, Hears, Move, Recalls, Refuses, Repeats, Serves, Stops, all_posts, datagram, heard_post, kept_post, last_of, last_post, past_with, posts_of, reading_after, reading_answered, reading_unchanged, readings_after, recalled_post, request}
-use Rattle.transfer_end.specs.OtherEndLaws.{all_at, among_either, among_left, among_right, first_is_sent, fits_any, kept_among, own_not_59, ports_fit_rise, ports_stay_one, posted_by, was_posted_still}
-use Rattle.transfer_end.specs.OtherEnds.{Among, AreFair, Brought, BroughtFrom, EventWasPosted, GotIsPosted, HasBegun, HasPosted, IsAnsweredBy, IsFair, IsPostOf, IsPostOfSide, LastIsPost, MoveFits, MovesFit, MovesStayFair, OwnPortsRise, PortsFit, ServesIn, TookRequest, all_of, answered, is_asking, of_refusal, of_transfer, refused, request_taken, served, unanswered}
+use Rattle.transfer_end.proofs.OtherEndLemmas.{all_at, among_either, among_left, among_right, first_is_sent, fits_any, kept_among, own_not_59, ports_fit_rise, ports_stay_one, posted_by, was_posted_still}
+use Rattle.transfer_end.specs.OtherEnds.{Among, AreFair, Brought, BroughtFrom, EventWasPosted, GotIsPosted, TransferHasBegun, HasPosted, IsAnsweredBy, IsFair, IsPostOf, IsPostOfSide, LastIsPost, MoveFits, MovesFit, MovesStayFair, OwnPortsRise, PortsFit, ServesIn, TookRequest, all_of, answered, is_asking, of_refusal, of_transfer, refused, request_taken, served, unanswered}
 use Rattle.transfer_end.specs.Packets.{is_peer, packet_in}
 use Rattle.transfer_end.specs.Readings.{Reading, kept_in, next_port_of}
 use Rattle.transfer_end.specs.Transfers.{LinkEnd, Reads, Role, ServesRead, ServesWrite, Transfer, Writes, bound_to, end_answer, end_in, end_moved, end_of, end_packet, first_packet, is_received, with_packet}
-use Rattle.transfer_end.specs.ViewLaws.{end_of_more, view_follows}
+use Rattle.transfer_end.proofs.ViewLemmas.{end_of_more, view_follows}
 use Rattle.transfer_end.specs.Views.{EndView, TransferView, end_view, seen, transfer_view}
 
 -- ---- a transfer later on
@@ -95,7 +95,7 @@ answered_still t s later after h = record {
   binds = h.binds;
 }
 
-begun_still : (posted more : List DatagramView) (side : Side) (theirs then : List Transfer) (t : Transfer) → Extends theirs then → HasBegun posted side theirs t → HasBegun (posted ++ more) side then t
+begun_still : (posted more : List DatagramView) (side : Side) (theirs then : List Transfer) (t : Transfer) → Extends theirs then → TransferHasBegun posted side theirs t → TransferHasBegun (posted ++ more) side then t
 begun_still posted more side theirs then t extends (served serves took) = served serves (took_still posted more side t took)
 begun_still posted more side theirs then t extends (unanswered asks unbound none) = unanswered asks unbound none
 begun_still posted more side theirs then t extends (refused asks by) = refused asks by
@@ -128,7 +128,7 @@ same_stays_fair me them mine theirs posted more sent fair = record {
 }
 
 -- a transfer begins
-pub new_stays_fair : (me them : Side) (n : Transfer) (mine theirs : List Transfer) (posted more : List DatagramView) → OwnPortsRise (n ∷ mine) → n.got ≡ [] → HasBegun (posted ++ more) them theirs n → AllByRecursion (IsPostOf n) more → HasPosted (posted ++ more) me n.own
+pub new_stays_fair : (me them : Side) (n : Transfer) (mine theirs : List Transfer) (posted more : List DatagramView) → OwnPortsRise (n ∷ mine) → n.got ≡ [] → TransferHasBegun (posted ++ more) them theirs n → AllByRecursion (IsPostOf n) more → HasPosted (posted ++ more) me n.own
     → IsFair me them mine theirs posted → IsFair me them (n ∷ mine) theirs (posted ++ more)
 new_stays_fair me them n mine theirs posted more rise none begins sent first fair = record {
   ports = rise;
@@ -146,8 +146,8 @@ new_stays_fair me them n mine theirs posted more rise none begins sent first fai
     got_of t (inl e) = subst (λ (x : Transfer). GotIsPosted (posted ++ more) them x) e (subst (λ (got : List PacketView). AllByRecursion (BroughtFrom (posted ++ more) them n.own n.peer) got) (sym none) tt)
     got_of t (inr a) = got_still posted more them t (fair.got t a)
 
-    begun_of : (t : Transfer) → Among t (n ∷ mine) → HasBegun (posted ++ more) them theirs t
-    begun_of t (inl e) = subst (λ (x : Transfer). HasBegun (posted ++ more) them theirs x) e begins
+    begun_of : (t : Transfer) → Among t (n ∷ mine) → TransferHasBegun (posted ++ more) them theirs t
+    begun_of t (inl e) = subst (λ (x : Transfer). TransferHasBegun (posted ++ more) them theirs x) e begins
     begun_of t (inr a) = begun_still posted more them theirs theirs t (extends_same theirs) (fair.begun t a)
 
 -- ---- a packet more
@@ -191,7 +191,7 @@ unbound_posts_none me them mine theirs posted t u fair other a b none bound = by
 
 module _ (me them : Side) (mine theirs : List Transfer) (posted : List DatagramView) (fair : IsFair me them mine theirs posted) (other : IsFair them me theirs mine posted) where
   -- what comes first comes from a transfer that serves and got nothing, or refuses
-  binds : (t : Transfer) (from : ℕ) (p : PacketView) → Among t mine → is_asking t.role ≡ true → t.peer ≡ None → t.got ≡ [] → (end_answer (end_of t.role []) p ≡ Dropped → ⊥) → Brought posted them from t.own p → HasBegun posted them theirs (with_packet t from p)
+  binds : (t : Transfer) (from : ℕ) (p : PacketView) → Among t mine → is_asking t.role ≡ true → t.peer ≡ None → t.got ≡ [] → (end_answer (end_of t.role []) p ≡ Dropped → ⊥) → Brought posted them from t.own p → TransferHasBegun posted them theirs (with_packet t from p)
   binds t from p a asks none empty taken b = by (other.posts _ b.among refl)
     where
       bound : bound_to t.peer from ≡ Some from
@@ -202,7 +202,7 @@ module _ (me them : Side) (mine theirs : List Transfer) (posted : List DatagramV
       first_bytes u post nothing =
           ap packet_bytes (first_is_sent u.role) ∙ ap (λ (heard : List PacketView). packet_bytes (end_packet (end_of u.role heard))) (sym (front_none post.heard post.later (sym nothing ∙ post.split))) ∙ sym post.bytes
 
-      serving : (u : Transfer) → Among u theirs → IsPostOf u (record { side = them; from = from; to = t.own; bytes = b.bytes }) → u.peer ≡ Some t.own → u.got ≡ [] → is_asking u.role ≡ false → HasBegun posted them theirs (with_packet t from p)
+      serving : (u : Transfer) → Among u theirs → IsPostOf u (record { side = them; from = from; to = t.own; bytes = b.bytes }) → u.peer ≡ Some t.own → u.got ≡ [] → is_asking u.role ≡ false → TransferHasBegun posted them theirs (with_packet t from p)
       serving u c post back nothing serves = answered asks u c (record {
         port = bound ∙ ap (λ (port : ℕ). Some port) post.port;
         back = back;
@@ -215,19 +215,19 @@ module _ (me them : Side) (mine theirs : List Transfer) (posted : List DatagramV
         binds = taken;
       })
 
-      begun : (u : Transfer) → Among u theirs → IsPostOf u (record { side = them; from = from; to = t.own; bytes = b.bytes }) → u.peer ≡ Some t.own → u.got ≡ [] → HasBegun posted me mine u → HasBegun posted them theirs (with_packet t from p)
+      begun : (u : Transfer) → Among u theirs → IsPostOf u (record { side = them; from = from; to = t.own; bytes = b.bytes }) → u.peer ≡ Some t.own → u.got ≡ [] → TransferHasBegun posted me mine u → TransferHasBegun posted them theirs (with_packet t from p)
       begun u c post back nothing (served serves took) = serving u c post back nothing serves
       begun u c post back nothing (unanswered asked unbound none_yet) = none_is_some _ u.peer t.own unbound back
       begun u c post back nothing (refused asked by_59) = absurd (own_not_59 mine t fair.ports a (some_is t.own 59 (sym back ∙ by_59)))
       begun u c post back nothing (answered asked s d h) = nil_is_cons _ u.got h.rest h.first nothing h.split
 
-      by : IsPostOfSide theirs (record { side = them; from = from; to = t.own; bytes = b.bytes }) → HasBegun posted them theirs (with_packet t from p)
+      by : IsPostOfSide theirs (record { side = them; from = from; to = t.own; bytes = b.bytes }) → TransferHasBegun posted them theirs (with_packet t from p)
       by (of_refusal port bytes) = refused asks (bound ∙ ap (λ (port : ℕ). Some port) port)
       by (of_transfer u c post) = ⊎_elim
           (λ (back : u.peer ≡ Some t.own). begun u c post back (unbound_posts_none me them mine theirs posted t u fair other a c none back) (other.begun u c))
           (λ (r : (t.own ≡ 59) × (post.heard ≡ []) × (is_asking u.role ≡ true)). absurd (own_not_59 mine t fair.ports a r.0)) post.goes
 
-  still_begun : (t : Transfer) (from : ℕ) (p : PacketView) → Among t mine → (t.peer ≡ None → end_answer (end_in t) p ≡ Dropped → ⊥) → Brought posted them from t.own p → HasBegun posted them theirs t → HasBegun posted them theirs (with_packet t from p)
+  still_begun : (t : Transfer) (from : ℕ) (p : PacketView) → Among t mine → (t.peer ≡ None → end_answer (end_in t) p ≡ Dropped → ⊥) → Brought posted them from t.own p → TransferHasBegun posted them theirs t → TransferHasBegun posted them theirs (with_packet t from p)
   still_begun t from p a taken b (served serves took) = served serves (record { peer = took.peer; bound = ap (λ (peer : Option ℕ). bound_to peer from) took.bound; request = took.request; taken = took.taken; brought = took.brought })
   still_begun t from p a taken b (unanswered asks unbound none) =
       binds t from p a asks unbound none (subst (λ (got : List PacketView). end_answer (end_of t.role got) p ≡ Dropped → ⊥) none (taken unbound)) b
@@ -276,8 +276,8 @@ heard_stays_fair me them t mine theirs posted more from p is taken b sent fair o
         (got_still posted more them (with_packet t from p) (got_more me them (t ∷ mine) theirs posted fair other t from p is b (fair.got t (inl refl))))
     got_of u (inr a) = got_still posted more them u (fair.got u (inr a))
 
-    begun_of : (u : Transfer) → Among u (with_packet t from p ∷ mine) → HasBegun (posted ++ more) them theirs u
-    begun_of u (inl e) = subst (λ (x : Transfer). HasBegun (posted ++ more) them theirs x) e
+    begun_of : (u : Transfer) → Among u (with_packet t from p ∷ mine) → TransferHasBegun (posted ++ more) them theirs u
+    begun_of u (inl e) = subst (λ (x : Transfer). TransferHasBegun (posted ++ more) them theirs x) e
         (begun_still posted more them theirs theirs (with_packet t from p) (extends_same theirs) (still_begun me them (t ∷ mine) theirs posted fair other t from p (inl refl) taken b (fair.begun t (inl refl))))
     begun_of u (inr a) = begun_still posted more them theirs theirs u (extends_same theirs) (fair.begun u (inr a))
 
@@ -340,7 +340,7 @@ not_received (ServesRead name o file) e = cc
 not_received (ServesWrite name o) e = cc
 
 -- a transfer without another end got nothing, and asked
-unbound_asks : (posted : List DatagramView) (side : Side) (theirs : List Transfer) (t : Transfer) → t.peer ≡ None → HasBegun posted side theirs t → (is_asking t.role ≡ true) × (t.got ≡ [])
+unbound_asks : (posted : List DatagramView) (side : Side) (theirs : List Transfer) (t : Transfer) → t.peer ≡ None → TransferHasBegun posted side theirs t → (is_asking t.role ≡ true) × (t.got ≡ [])
 unbound_asks posted side theirs t none (served serves took) = none_is_some _ t.peer took.peer none took.bound
 unbound_asks posted side theirs t none (unanswered asks unbound empty) = (asks, empty)
 unbound_asks posted side theirs t none (refused asks by_59) = none_is_some _ t.peer 59 none by_59
@@ -415,7 +415,7 @@ module _ (me them : Side) (former theirs : List Transfer) (posted : List Datagra
       }
 
   -- a transfer begins
-  new_stays : (n : Transfer) (ts : List Transfer) (last : Option DatagramView) (d : DatagramView) → OwnPortsRise (n ∷ ts) → n.got ≡ [] → HasBegun (posted ++ d ∷ []) them theirs n → d.side ≡ me → IsPostOf n d
+  new_stays : (n : Transfer) (ts : List Transfer) (last : Option DatagramView) (d : DatagramView) → OwnPortsRise (n ∷ ts) → n.got ≡ [] → TransferHasBegun (posted ++ d ∷ []) them theirs n → d.side ≡ me → IsPostOf n d
       → AreFair me them ts theirs last posted → AreFair me them (n ∷ ts) theirs (Some d) (posted ++ d ∷ [])
   new_stays n ts last d rise empty begun is post h = record {
     one = new_stays_fair me them n ts theirs posted (d ∷ []) rise empty begun (post, tt) (record { datagram = d; among = among_right d posted (d ∷ []) (inl refl); poster = is; port = post.port }) h.one;

@@ -16,17 +16,17 @@ use Rattle.tftp_link.specs.Sender.{Sender, ack_answer, awaited_answer, data_of, 
 use Rattle.exchange_trace.specs.declared.trace.Side.{Side}
 use Rattle.exchange_trace.specs.Happenings.{DatagramView}
 use Rattle.exchange_trace.specs.Logs.{Event, Gets, Learns, Starts_info, Starts_upload, Ticks}
-use Rattle.transfer_end.specs.CameLaws.{all_mapped}
-use Rattle.transfer_end.specs.FirstPostLaws.{next_with, stopped_in_order}
+use Rattle.transfer_end.proofs.CameLemmas.{all_mapped}
+use Rattle.transfer_end.proofs.FirstPostLemmas.{next_with, stopped_in_order}
 use Rattle.transfer_end.specs.FirstPosts.{AllInOrder, MovesPostInOrder, PostsInOrder, blocks_of, opening, posted_from, sent_by}
 use Rattle.transfer_end.specs.Laws.{CountUp, IsLive, PortsCountUp}
 use Rattle.transfer_end.specs.Moves.{Asks, Asks_size, Hears, Move, Recalls, Refuses, Repeats, Serves, Stops, all_posts, datagram, heard_post, kept_post, past_with, posts_of, reading_after, reading_answered, reading_unchanged, readings_after, recalled_post, request}
 use Rattle.transfer_end.specs.OtherEnds.{Among, IsNoTick, IsTick, MoveFits, MovesFit, OwnPortsRise, file_sent, end_block_size}
-use Rattle.transfer_end.specs.OtherEndLaws.{count_rise, first_stays, fits_any, kept_among, own_is_one, own_not_59}
+use Rattle.transfer_end.proofs.OtherEndLemmas.{count_rise, first_stays, fits_any, kept_among, own_is_one, own_not_59}
 use Rattle.transfer_end.specs.Readings.{Reading, kept_in, next_port_of, port_past, port_with}
-use Rattle.transfer_end.specs.RfcLaws.{end_is_of_link, moves_count_up, sends_next_block}
+use Rattle.transfer_end.proofs.RfcLemmas.{end_is_of_link, moves_count_up, sends_next_block}
 use Rattle.transfer_end.specs.Transfers.{LinkEnd, Reads, Role, Sends, ServesRead, ServesWrite, Transfer, Writes, end_after, end_answer, end_in, end_moved, end_of, end_packet, first_packet, is_received, with_packet}
-use Rattle.transfer_end.specs.ViewLaws.{end_of_more, view_follows}
+use Rattle.transfer_end.proofs.ViewLemmas.{end_of_more, view_follows}
 use Rattle.transfer_end.specs.Views.{EndView, TransferView, end_view, seen, transfer_view}
 
 -- ---- a sending end

@@ -1,3 +1,15 @@
 pub mod FairMoves
 pub mod InOrder
 pub mod Answering
+pub mod AckLemmas
+pub mod ArrivalLemmas
+pub mod CallLemmas
+pub mod CameLemmas
+pub mod FirstPostLemmas
+pub mod OtherEndLemmas
+pub mod PlacedLemmas
+pub mod PostedLemmas
+pub mod ReceivedLemmas
+pub mod RfcLemmas
+pub mod SentPacketLemmas
+pub mod ViewLemmas

@@ -53,13 +53,13 @@ abbrev pub BlocksCame : List Event → Reading → Type 0
 BlocksCame log r = AllByRecursion (BlockCame log) (past_with r.live r.past)
 
 -- one of the packets is the DATA of this number
-abbrev pub IsData : ℕ → PacketView → Type 0
-IsData k (Data n payload) = n ≡ k
-IsData k packet = ⊥
+abbrev pub IsDataOf : ℕ → PacketView → Type 0
+IsDataOf k (Data n payload) = n ≡ k
+IsDataOf k packet = ⊥
 
 abbrev pub HasData : ℕ → List PacketView → Type 0
 HasData k [] = ⊥
-HasData k (packet ∷ packets) = IsData k packet ⊎ HasData k packets
+HasData k (packet ∷ packets) = IsDataOf k packet ⊎ HasData k packets
 
 -- A receiving end has taken what it had taken before, or a block that is among the packets that it got.
 abbrev pub TakenWasGot : Type 0

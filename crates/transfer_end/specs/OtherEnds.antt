@@ -122,11 +122,11 @@ pub record IsAnsweredBy (t s : Transfer) : Type 0 where
 
 -- how a transfer of a side has begun, where these are the transfers of the other side: it took a request; or asked, and wasn't
 -- answered, or was refused from port 59, or answered by a transfer that serves
-pub data HasBegun (posted : List DatagramView) (side : Side) (theirs : List Transfer) (t : Transfer) : Type 0 where
-  served : is_asking t.role ≡ false → TookRequest posted side t → HasBegun posted side theirs t
-  unanswered : is_asking t.role ≡ true → t.peer ≡ None → t.got ≡ [] → HasBegun posted side theirs t
-  refused : is_asking t.role ≡ true → t.peer ≡ Some 59 → HasBegun posted side theirs t
-  answered : is_asking t.role ≡ true → (s : Transfer) → Among s theirs → IsAnsweredBy t s → HasBegun posted side theirs t
+pub data TransferHasBegun (posted : List DatagramView) (side : Side) (theirs : List Transfer) (t : Transfer) : Type 0 where
+  served : is_asking t.role ≡ false → TookRequest posted side t → TransferHasBegun posted side theirs t
+  unanswered : is_asking t.role ≡ true → t.peer ≡ None → t.got ≡ [] → TransferHasBegun posted side theirs t
+  refused : is_asking t.role ≡ true → t.peer ≡ Some 59 → TransferHasBegun posted side theirs t
+  answered : is_asking t.role ≡ true → (s : Transfer) → Among s theirs → IsAnsweredBy t s → TransferHasBegun posted side theirs t
 
 -- ---- ports
 
@@ -150,7 +150,7 @@ pub record IsFair (me them : Side) (mine theirs : List Transfer) (posted : List 
   pub posts : (d : DatagramView) → Among d posted → d.side ≡ me → IsPostOfSide mine d
   pub sent : (t : Transfer) → Among t mine → HasPosted posted me t.own
   pub got : (t : Transfer) → Among t mine → GotIsPosted posted them t
-  pub begun : (t : Transfer) → Among t mine → HasBegun posted them theirs t
+  pub begun : (t : Transfer) → Among t mine → TransferHasBegun posted them theirs t
 
 -- ---- moves
 

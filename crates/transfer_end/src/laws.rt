@@ -7,7 +7,8 @@ ghost use Rattle.transfer_end.specs.Laws.{SendsNextBlock, TakenIsLent, ViewFollo
 ghost use Rattle.transfer_end.specs.OtherEnds.{MovesStayFair, ReceivesWhatWasSent};
 
 /// What an end keeps is what is kept of its log, whatever moves it makes. So what it posts, which
-/// follows from what it keeps, follows from the log. `specs/ViewLaws.antt` says the same to proofs.
+/// follows from what it keeps, follows from the log. `proofs/ViewLemmas.antt` says the same to
+/// proofs.
 pub fn an_end_follows_its_log()
     ensures one_move { ViewFollows }
     ensures moves { ViewsFollow }
@@ -35,7 +36,7 @@ pub fn own_ports_count_up()
 {}
 
 /// What is in a transfer came from its other end, and a block that was taken came as DATA before it
-/// is acknowledged. `specs/CameLaws.antt` says the same to proofs.
+/// is acknowledged. `proofs/CameLemmas.antt` says the same to proofs.
 pub fn what_was_taken_came()
     // A receiving end takes blocks from the packets that it gets.
     ensures got { TakenWasGot }
@@ -46,7 +47,7 @@ pub fn what_was_taken_came()
 {}
 
 /// An acknowledgement of a block goes out only after the DATA of that number came, from where the
-/// acknowledgement goes. `specs/AckLaws.antt` says the same to proofs.
+/// acknowledgement goes. `proofs/AckLemmas.antt` says the same to proofs.
 pub fn what_is_acknowledged_came()
     // Of all that a side posts at an event, where so it is of what it posted last.
     ensures posts { PostsAckWhatCame }
@@ -55,7 +56,7 @@ pub fn what_is_acknowledged_came()
 {}
 
 /// Whatever moves a side makes at an event, it posts at most two datagrams.
-/// `specs/PostedLaws.antt` says the same to proofs.
+/// `proofs/PostedLemmas.antt` says the same to proofs.
 pub fn two_datagrams_at_most()
     ensures { MovesPostTwo }
 {}
@@ -63,7 +64,7 @@ pub fn two_datagrams_at_most()
 /// What a side receives in a transfer is what the transfer's other end sent, wherever the datagrams
 /// of each side were posted by the other: each block that came is that block of its file, in the
 /// block size that both ends hold, and a file that was received whole is the file that was sent.
-/// `specs/ReceivedLaws.antt` says the latter to proofs.
+/// `proofs/ReceivedLemmas.antt` says the latter to proofs.
 pub fn what_comes_was_sent()
     // Whatever moves a side makes, each transfer goes on as it began: one end asked, the other
     // serves it, and the packets of each are what the other sent to it.

@@ -5,7 +5,7 @@ ghost use Rattle.exchange_trace.specs.Happenings.{datagram_view};
 ghost use Rattle.transfer_end.specs.Moves.{datagram as datagram_of};
 
 use exchange_trace::{Datagram, Side};
-use load_base::{List, NoMemory};
+use load_base::NoMemory;
 use std::alloc::Global;
 use tftp_packet::Packet;
 
@@ -40,18 +40,4 @@ pub(crate) fn copy_into(kept: &mut Datagram, datagram: &Datagram) -> Result<(), 
     kept.from = datagram.from;
     kept.to = datagram.to;
     Ok(())
-}
-
-/// The same datagram once more.
-pub(crate) fn copy_of(alloc: Global, datagram: &Datagram) -> Result<Datagram, NoMemory>
-    ensures { IfOk result (λ d. datagram_view d ≡ datagram_view datagram.now) }
-{
-    let mut bytes = List::new(alloc);
-    bytes.extend(datagram.bytes.as_slice())?;
-    Ok(Datagram {
-        from_side: datagram.from_side,
-        from: datagram.from,
-        to: datagram.to,
-        bytes,
-    })
 }

@@ -1,7 +1,7 @@
 //! The rules on transfers that both sides keep.
 ghost use Rattle.std.specs.Prelude.{◌≡◌, ℕ, ◌+◌, ◌≤◌, max, List, [], ◌∷◌, length, true};
 ghost use Rattle.std.specs.Prelude.{None, Some, IfOk, OnOk, unwrap_or};
-ghost use Rattle.exchange_trace.specs.Happenings.{DatagramView, datagram_view};
+ghost use Rattle.exchange_trace.specs.Happenings.{datagram_view};
 ghost use Rattle.tftp_packet.specs.Options.{AreInRange};
 ghost use Rattle.tftp_packet.specs.Packets.{IsInRange, packet_view};
 ghost use Rattle.tftp_link.specs.Answers.{news_by, news_view};
@@ -9,17 +9,17 @@ ghost use Rattle.tftp_link.specs.Sender.{contents};
 ghost use Rattle.transfer_end.specs.Calls.{Makes, end_seen, ends_transfer, transfer_seen, marked};
 ghost use Rattle.transfer_end.specs.Calls.{posted, recalling, view_awaited, view_opened, with_last};
 ghost use Rattle.transfer_end.specs.Calls.{with_live};
-ghost use Rattle.transfer_end.specs.Moves.{Asks, Asks_size, Hears, Recalls, Refuses, Repeats};
-ghost use Rattle.transfer_end.specs.Moves.{Serves, Stops, bound, datagram as datagram_of};
-ghost use Rattle.transfer_end.specs.Moves.{kept_after, last_of, mark_bound};
+ghost use Rattle.transfer_end.specs.Moves.{Asks, Asks_size, Hears, Refuses, Repeats};
+ghost use Rattle.transfer_end.specs.Moves.{Serves, Stops, datagram as datagram_of};
+ghost use Rattle.transfer_end.specs.Moves.{last_of};
 ghost use Rattle.transfer_end.specs.Packets.{answer_of, has_port, heard_answer, is_busy};
 ghost use Rattle.transfer_end.specs.Packets.{is_fresh, may_repeat, transfer_moves};
 ghost use Rattle.transfer_end.specs.Packets.{wanted_options};
 ghost use Rattle.transfer_end.specs.Transfers.{Reads, ServesRead, ServesWrite, Writes, end_first};
-ghost use Rattle.transfer_end.specs.Views.{EndView, TransferView, new_end};
+ghost use Rattle.transfer_end.specs.Views.{EndView, new_end};
 
 use crate::file_end::FileEnd;
-use crate::posting::{copy_into, copy_of, datagram};
+use crate::posting::{copy_into, datagram};
 use crate::transfer::Transfer;
 use exchange_trace::{Datagram, Side};
 use load_base::{Name, NoMemory};
@@ -294,7 +294,7 @@ impl<'f> TransferEnd<'f> {
         match &mut self.last {
             Some(last) => copy_into(last, datagram),
             None => {
-                self.last = Some(copy_of(self.alloc, datagram)?);
+                self.last = Some(datagram.copy(self.alloc)?);
                 Ok(())
             }
         }
@@ -448,7 +448,7 @@ impl<'f> TransferEnd<'f> {
     {
         self.retries += 1;
         match &self.last {
-            Some(datagram) => Ok(Some(copy_of(self.alloc, datagram)?)),
+            Some(datagram) => Ok(Some(datagram.copy(self.alloc)?)),
             None => Ok(None),
         }
     }

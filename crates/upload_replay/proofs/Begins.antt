@@ -14,7 +14,7 @@ use Rattle.replay_rules.specs.Promises.{IsTrace}
 use Rattle.run_promises.specs.Promises.{KeepsPromises, RunsKeepPromises}
 use Rattle.target_machine.specs.Boots.{ComesUp}
 use Rattle.target_machine.specs.Decisions.{TargetState}
-use Rattle.replay_turns.specs.StepLaws.{OneStanding}
+use Rattle.replay_turns.proofs.StepLemmas.{OneStanding}
 use Rattle.link_net.specs.Links.{LinkState}
 use Rattle.upload_replay.specs.Drivers.{DriverState, GoesOn, IsLinked, IsTiedTo, RunGoesOn, end_step}
 use Rattle.upload_replay.specs.Drives.{IsLoadersRun, IsUnitRun, LoaderGoesOn}

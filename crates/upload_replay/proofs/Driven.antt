@@ -11,11 +11,11 @@ use Rattle.loader_machine.specs.Machine.{media_of, session_view}
 use Rattle.media_check.specs.Sets.{SetView}
 use Rattle.session_rules.specs.MediaFiles.{Media}
 use Rattle.replay_rules.specs.BothEnds.{Setting}
-use Rattle.replay_turns.specs.PowerLaws.{rose_not, rose_on}
+use Rattle.replay_turns.proofs.PowerLemmas.{rose_not, rose_on}
 use Rattle.replay_turns.specs.Powers.{RoseBy, disk_stops}
 use Rattle.upload_replay.specs.declared.outcome.Drive.{Drive}
 use Rattle.upload_replay.specs.Drivers.{DriverState, GoesOn, HoldsUnit, IsUnderWay, RunGoesOn, RunsOnDisk, end_step}
-use Rattle.upload_replay.specs.Drives.{IsLoadersRun, IsRun, IsUnitRun}
+use Rattle.upload_replay.specs.Drives.{IsLoadersRun, IsDrivenRun, IsUnitRun}
 use Rattle.upload_replay.specs.Endings.{EndsRun, EndsUnit, FailedIfUnknown, HoldsSome}
 use Rattle.upload_replay.proofs.Begins.{starts_on}
 
@@ -53,7 +53,7 @@ module _ {R : Type 0} (d : DriverState R) (drive : Drive) (ended : steps_of driv
   }
 
   pub unit_is_run : (set : Setting) (began link : LinkState) → RunGoesOn set true began link d → IsUnitRun set (steps_of drive.trace.items) (map session_view drive.sessions.items) (option_map standing_view drive.standing)
-      → IsRun set began link (steps_of drive.trace.items) (map session_view drive.sessions.items) (option_map standing_view drive.standing)
+      → IsDrivenRun set began link (steps_of drive.trace.items) (map session_view drive.sessions.items) (option_map standing_view drive.standing)
   unit_is_run set began link on unit = record {
     trace = unit.trace;
     carries = unit.carries;

@@ -12,12 +12,12 @@ use Rattle.exchange_trace.specs.Posts.{posted_in}
 use Rattle.exchange_trace.specs.Steps.{Boot_refused, Came_up, Note, Step, Went_down}
 use Rattle.session_rules.specs.Target.{TargetView}
 use Rattle.load_intake.specs.Contents.{AddsAtFirst}
-use Rattle.replay_rules.specs.BothEnds.{Is_down, Is_up, Setting, TargetState, gone_down, noted, reached, target_at}
+use Rattle.replay_rules.specs.BothEnds.{Is_down, Is_up, Setting, TargetStanding, gone_down, noted, reached, target_at}
 use Rattle.replay_rules.specs.ContentTraces.{ContentsFollowAt}
 use Rattle.replay_rules.specs.Histories.{may_be_active}
 use Rattle.replay_rules.specs.Promises.{AllMoments, HoldsOneOf}
 use Rattle.target_machine.specs.Decisions as machine
-use Rattle.replay_turns.specs.StepLaws.{OneStanding, alike, gone_leaves, one_left, one_of_either, one_right}
+use Rattle.replay_turns.proofs.StepLemmas.{OneStanding, alike, gone_leaves, one_left, one_of_either, one_right}
 use Rattle.replay_turns.specs.StepsOnDisks.{AddsInStep, BootIsTold, HoldsAsBefore, HoldsRun}
 use Rattle.replay_turns.specs.Targets.{TargetTurns}
 use Rattle.upload_replay.specs.Moments.{AreClocks, HeldSoFar}
@@ -47,7 +47,7 @@ module _ (set : Setting) (old new : DiskState) (one : OneStanding) (counts : (t 
   )
 
 -- what may be active before a step or once something reached the target in it is among what may be active before or after it
-after_boot : (set : Setting) (e : Option Event) (state : TargetState) (image : Image) (others : List StandingView) → e ≡ None → HoldsOneOf (may_be_active state ++ may_be_active (reached set e state)) image
+after_boot : (set : Setting) (e : Option Event) (state : TargetStanding) (image : Image) (others : List StandingView) → e ≡ None → HoldsOneOf (may_be_active state ++ may_be_active (reached set e state)) image
     → HoldsOneOf (may_be_active state ++ others) image
 after_boot set None (Is_up r) image others none is = elim (one_of_either image (may_be_active (Is_up r)) (may_be_active (Is_up r)) is) [
   | inl one ↦ one_left image (may_be_active (Is_up r)) others one
@@ -59,7 +59,7 @@ after_boot set None (Is_down active interrupted) image others none is = elim (on
 ]
 after_boot set (Some e) state image others none is = absurd (let wrong : Some e ≡ None = none in cc)
 
-pub noted_covers : (set : Setting) (e : Option Event) (state : TargetState) (before after : Option TargetView) (posts : List DatagramView) (notes : List Note) (image : Image) → ContentsFollowAt set state
+pub noted_covers : (set : Setting) (e : Option Event) (state : TargetStanding) (before after : Option TargetView) (posts : List DatagramView) (notes : List Note) (image : Image) → ContentsFollowAt set state
     → TargetTurns set e state before after posts notes → HoldsOneOf (may_be_active state ++ may_be_active (reached set e state)) image → HoldsOneOf (may_be_active state ++ may_be_active (noted notes state (reached set e state))) image
 noted_covers set e state before after posts [] image follow turns is = is
 noted_covers set e state before after posts (Went_down ∷ []) image follow turns is =

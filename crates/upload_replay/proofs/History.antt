@@ -21,7 +21,7 @@ use Rattle.run_promises.specs.Promises.{HoldsFirstOrGood}
 use Rattle.replay_rules.specs.Histories.{may_be_active}
 use Rattle.replay_rules.specs.Promises.{AllMoments, HoldsOneOf}
 use Rattle.target_machine.specs.Decisions as machine
-use Rattle.replay_turns.specs.StepLaws.{one_left, one_of_either, one_right}
+use Rattle.replay_turns.proofs.StepLemmas.{one_left, one_of_either, one_right}
 use Rattle.replay_turns.specs.StepsOnDisks.{AddsInStep, LeavesNoMore}
 use Rattle.upload_replay.specs.Drivers.{DriverState, GoesOn, IsLinked, IsTiedTo, RunsOnDisk}
 use Rattle.upload_replay.specs.Leaves.{IsPostedUpTo, LastInjectsBytes, LeavesHistory, all_active, brought_last}

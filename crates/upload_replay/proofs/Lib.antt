@@ -10,3 +10,4 @@ pub mod Posted
 pub mod Resting
 pub mod Throughout
 pub mod Turning
+pub mod OrderLemmas

@@ -14,7 +14,7 @@ use Rattle.session_rules.specs.Loader.{LoaderView}
 use Rattle.session_rules.specs.MediaFiles.{Media}
 use Rattle.session_rules.specs.Target.{TargetView}
 use Rattle.loader_machine.specs.Machine.{media_of}
-use Rattle.replay_rules.specs.BothEnds.{Setting, TargetState}
+use Rattle.replay_rules.specs.BothEnds.{Setting, TargetStanding}
 use Rattle.replay_rules.specs.Ties.{loader_says, target_next, target_says}
 use Rattle.target_machine.specs.Boots.{ComesUp}
 use Rattle.target_machine.specs.Decisions as machine
@@ -35,7 +35,7 @@ abbrev pub some_setting : Media → (accepts : Accepts) → Identity → Setting
 some_setting media accepts identity = record { media = media; accepts = accepts; start = record { identity = identity; bank = 0; sequence = 0; loads = [] } }
 
 -- a step more
-pub lived_on : {R : Type 0} (may_say : R → LoadHeader → List KeptLoad → Bool → Type 0) (set : Setting) (state : TargetState) (before after : DriverState R) (h : HappeningView) (posts : List DatagramView) (old new : DiskState)
+pub lived_on : {R : Type 0} (may_say : R → LoadHeader → List KeptLoad → Bool → Type 0) (set : Setting) (state : TargetStanding) (before after : DriverState R) (h : HappeningView) (posts : List DatagramView) (old new : DiskState)
     → StepsAsSaid may_say set state h posts before.steps after.steps before.loader after.loader before.target after.target old new → GoesOn before
     → HasLived (media_of before.loader.set) set.accepts before.steps (target_kept before.target) → HasLived (media_of after.loader.set) set.accepts after.steps (target_kept after.target)
 lived_on may_say set state before after h posts old new said on lived =

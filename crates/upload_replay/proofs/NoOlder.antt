@@ -1,5 +1,5 @@
 -- Proofs that all that may be active is of the target that a run began on, and not older than what was active at first.
-use Rattle.std.proofs.Common.{◌≡◌, inl, inr, ◌⊎◌, ℕ, ◌≤◌, ◌+◌, cond, List, [], ◌∷◌, ◌++◌, Bool, true, false, Option, Some, None, refl, sym, ap, subst, ◌∙◌, arith}
+use Rattle.std.proofs.Common.{inl, inr, ℕ, ◌+◌, cond, List, [], ◌∷◌, ◌++◌, Bool, true, false, Option, Some, None, refl, sym, ap, subst, ◌∙◌, arith}
 use Rattle.std.specs.Prelude.{◌==◌}
 use Rattle.std.specs.List.{AllByRecursion}
 use Rattle.disk_model.specs.Image.{Image}
@@ -17,7 +17,7 @@ use Rattle.session_rules.specs.Target as Target
 use Rattle.session_rules.specs.Target.{TargetChange, target_decision}
 use Rattle.session_rules.specs.TargetLog.{TargetReading, standing_in, target_extended, target_view}
 use Rattle.session_rules.specs.TargetRows.{Awaits_lur, Gives_denial, Gives_lci, Gives_lui, Over, Reads_file, RowMove, WholeRow, Writes_completion, Writes_lcl, Writes_lcs, Writes_progress, Writes_ready, Writes_stop, first_row, row_moved}
-use Rattle.replay_rules.specs.BothEnds.{Is_down, Is_up, Setting, TargetState, come_up, gone_down, noted, reached, settled, target_at}
+use Rattle.replay_rules.specs.BothEnds.{Is_down, Is_up, Setting, TargetStanding, come_up, gone_down, noted, reached, settled, target_at}
 use Rattle.replay_rules.specs.ContentTraces.{ContentsFollowAt, ContentsFollowTraces}
 use Rattle.replay_rules.specs.Histories.{may_be_active}
 use Rattle.replay_rules.specs.Promises.{HoldsOneOf}
@@ -72,14 +72,14 @@ module _ (follows : ContentsFollowTraces) (set : Setting) where
   abbrev AreNoOlder : List StandingView → Type 0
   AreNoOlder members = AllByRecursion (IsNoOlder set.start) members
 
-  abbrev AllNoOlder : TargetState → Type 0
+  abbrev AllNoOlder : TargetStanding → Type 0
   AllNoOlder state = AreNoOlder (may_be_active state)
 
   gone_if : (before after : StandingView) (same : Bool) → IsNoOlder set.start before → IsNoOlder set.start after → AllNoOlder (Is_down before (cond same None (Some after)))
   gone_if before after true was then = (was, tt)
   gone_if before after false was then = (was, (then, tt))
 
-  gone : (before after : TargetState) → AllNoOlder before → AllNoOlder after → AllNoOlder (gone_down before after)
+  gone : (before after : TargetStanding) → AllNoOlder before → AllNoOlder after → AllNoOlder (gone_down before after)
   gone (Is_up r) (Is_up s) (was, none) (then, nothing) = gone_if r.active s.active (r.active.sequence == s.active.sequence) was then
   gone (Is_up r) (Is_down active interrupted) was then = then
   gone (Is_down active interrupted) after was then = was
@@ -92,11 +92,11 @@ module _ (follows : ContentsFollowTraces) (set : Setting) where
       by true = then
       by false = was
 
-  came : (first_port sequence : ℕ) (state : TargetState) → AllNoOlder state → AllNoOlder (come_up first_port sequence state)
+  came : (first_port sequence : ℕ) (state : TargetStanding) → AllNoOlder state → AllNoOlder (come_up first_port sequence state)
   came first_port sequence (Is_up r) was = was
   came first_port sequence (Is_down active interrupted) was = (settled_on sequence active interrupted was, tt)
 
-  after_notes : (notes : List Note) (before after : TargetState) → AllNoOlder before → AllNoOlder after → AllNoOlder (noted notes before after)
+  after_notes : (notes : List Note) (before after : TargetStanding) → AllNoOlder before → AllNoOlder after → AllNoOlder (noted notes before after)
   after_notes [] before after was then = then
   after_notes (Went_down ∷ notes) before after was then = let down = gone before after was then in after_notes notes (gone_down before after) (gone_down before after) down down
   after_notes (Came_up first_port sequence ∷ notes) before after was then =
@@ -104,7 +104,7 @@ module _ (follows : ContentsFollowTraces) (set : Setting) where
       after_notes notes (come_up first_port sequence (gone_down before after)) (come_up first_port sequence (gone_down before after)) up up
   after_notes (Boot_refused fault ∷ notes) before after was then = let down = gone before after was then in after_notes notes (gone_down before after) (gone_down before after) down down
 
-  reaches : (e : Option Event) (state : TargetState) → ContentsFollowAt set state → AllNoOlder state → AllNoOlder (reached set e state)
+  reaches : (e : Option Event) (state : TargetStanding) → ContentsFollowAt set state → AllNoOlder state → AllNoOlder (reached set e state)
   reaches None (Is_up r) follow was = was
   reaches (Some e) (Is_up r) follow (was, none) = (later set.start r.active _ was (extended r e follow), tt)
   reaches None (Is_down active interrupted) follow was = was

@@ -8,9 +8,9 @@ use Rattle.disk_layout.specs.declared.standing.Standing.{Standing}
 use Rattle.disk_model.specs.Image.{Image}
 use Rattle.disk_model.specs.State.{DiskState, IsSettled}
 use Rattle.exchange_trace.specs.Steps.{Step}
-use Rattle.replay_rules.specs.BothEnds.{Is_down, Is_up, Setting, TargetState, target_at}
+use Rattle.replay_rules.specs.BothEnds.{Is_down, Is_up, Setting, TargetStanding, target_at}
 use Rattle.target_machine.specs.Decisions as machine
-use Rattle.replay_turns.specs.StepLaws.{read_now}
+use Rattle.replay_turns.proofs.StepLemmas.{read_now}
 use Rattle.replay_turns.specs.StepsOnDisks.{HoldsRun, LeavesNoMore}
 use Rattle.upload_replay.specs.Endings.{HoldsStanding}
 
@@ -25,7 +25,7 @@ module _ {R : Type 0} (set : Setting) (steps : List Step) (target : Option (mach
   works_up : (t : machine.TargetState R) → target ≡ Some t → LosesOnlyWork old
   works_up t is = by (target_at set steps) refl
     where
-      by : (state : TargetState) → target_at set steps ≡ state → LosesOnlyWork old
+      by : (state : TargetStanding) → target_at set steps ≡ state → LosesOnlyWork old
       by (Is_up r) at = let was = rw (at, is) at holds.works in works t.store was.beside.image was.beside.told was.beside.works
       by (Is_down active interrupted) at = absurd (let wrong : Some t.view ≡ None = rw (is, at) at holds.kept in cc)
 

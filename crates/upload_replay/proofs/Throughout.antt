@@ -4,12 +4,12 @@ use Rattle.std.specs.Prelude.{is_some, option_map}
 use Rattle.disk_model.specs.Image.{Image}
 use Rattle.disk_model.specs.State.{DiskState, IsSettled, OnlyReads}
 use Rattle.disk_layout.specs.Holds.{HoldsConfig, StandingView, outline_of, standing_view}
-use Rattle.disk_model.specs.MomentLaws.{settled_stays}
+use Rattle.disk_model.proofs.MomentLemmas.{settled_stays}
 use Rattle.disk_layout.specs.declared.fault.RecoverFault.{RecoverFault}
 use Rattle.disk_layout.specs.declared.fault.RecoverFault.TheVariants.{BadManifest, BadSlot, DiskFailed, Memory, NoOpenSlot, NotFormatted}
 use Rattle.disk_layout.specs.declared.standing.Standing.{Standing}
 use Rattle.exchange_trace.specs.Steps.{Step}
-use Rattle.replay_rules.specs.BothEnds.{Is_down, Is_up, Setting, TargetState, loader_at, reached, target_at}
+use Rattle.replay_rules.specs.BothEnds.{Is_down, Is_up, Setting, TargetStanding, loader_at, reached, target_at}
 use Rattle.replay_rules.specs.Histories.{active_by}
 use Rattle.replay_rules.specs.Promises.{HoldsOneOf}
 use Rattle.target_machine.specs.Boots.{ComesUp}
@@ -20,8 +20,8 @@ use Rattle.target_machine.specs.Disks.{HoldsContents, StartsOn}
 use Rattle.replay_rules.specs.Due.{AllDue, AllNoted, MayGoDown, due_of_loader, due_of_target, is_up}
 use Rattle.upload_replay.specs.Drivers.{end_step}
 use Rattle.upload_replay.specs.Endings.{HoldsStanding, last_refusal_of}
-use Rattle.replay_turns.specs.BootLaws.{settles}
-use Rattle.replay_turns.specs.StepLaws.{OneStanding, one_left, read_now, same_as_left}
+use Rattle.replay_turns.proofs.BootLemmas.{settles}
+use Rattle.replay_turns.proofs.StepLemmas.{OneStanding, one_left, read_now, same_as_left}
 use Rattle.replay_turns.specs.StepsOnDisks.{AreApart, HoldsRun, LeavesNoMore}
 use Rattle.replay_rules.specs.Histories.{may_be_active}
 use Rattle.upload_replay.specs.Moments.{HeldSoFar, HoldsThroughout, LeftAtEnd}
@@ -30,7 +30,7 @@ use Rattle.upload_replay.proofs.Held.{moments_kept}
 -- ---- which configuration is active
 
 -- what was recovered
-ends_as : OneStanding → (image : Image) (s : StandingView) (state : TargetState) → AreApart state → HoldsConfig image s → HoldsOneOf (may_be_active state) image → active_by state (Some s) ≡ s
+ends_as : OneStanding → (image : Image) (s : StandingView) (state : TargetStanding) → AreApart state → HoldsConfig image s → HoldsOneOf (may_be_active state) image → active_by state (Some s) ≡ s
 ends_as one image s (Is_up r) apart held (inl is) = one image r.active s is held
 ends_as one image s (Is_up r) apart held (inr none) = absurd none
 ends_as one image s (Is_down active interrupted) apart held is = settles one image s active interrupted apart held is
@@ -61,7 +61,7 @@ begins_held {R} one set rule target old new image alone told now starts reads up
 
 -- ---- the end
 
-module _ {R : Type 0} (one : OneStanding) (set : Setting) (state : TargetState) (target : Option (machine.TargetState R)) (old new : DiskState) (holds : HoldsRun set state target old) (no_more : LeavesNoMore old new)
+module _ {R : Type 0} (one : OneStanding) (set : Setting) (state : TargetStanding) (target : Option (machine.TargetState R)) (old new : DiskState) (holds : HoldsRun set state target old) (no_more : LeavesNoMore old new)
     (reads_now : (image : Image) → new.reads ≡ Some image → new.now image) where
   -- the configuration that was recovered
   module _ (s : StandingView) (held : (image : Image) → new.reads ≡ Some image → HoldsConfig image s) where
@@ -74,7 +74,7 @@ module _ {R : Type 0} (one : OneStanding) (set : Setting) (state : TargetState) 
     up_alone : (t : machine.TargetState R) → target ≡ Some t → (image : Image) → new.now image → HoldsConfig image s
     up_alone t is image may = by state refl
       where
-        by : (st : TargetState) → state ≡ st → HoldsConfig image s
+        by : (st : TargetStanding) → state ≡ st → HoldsConfig image s
         by (Is_up r) at = subst (λ (x : StandingView). HoldsConfig image x) (rw at at was_active) (alone (rw at at (holds.leaves image (no_more.now image may))))
           where
             alone : HoldsOneOf (r.active ∷ []) image → HoldsConfig image r.active
@@ -119,7 +119,7 @@ throughout one set since clocks steps target old new standing counts only reads_
 
 -- ---- the end of a driver
 
-reached_none : (set : Setting) (state : TargetState) → reached set None state ≡ state
+reached_none : (set : Setting) (state : TargetStanding) → reached set None state ≡ state
 reached_none set (Is_up r) = refl
 reached_none set (Is_down active interrupted) = refl
 
@@ -133,17 +133,17 @@ pub held_to_end : {R : Type 0} (set : Setting) (since : ℕ) (clocks : List ℕ)
 held_to_end set since clocks steps target disk only held =
     let same = ended_at set steps in
     record {
-      holds = subst (λ (state : TargetState). HoldsRun set state target disk) (sym same) held.holds;
+      holds = subst (λ (state : TargetStanding). HoldsRun set state target disk) (sym same) held.holds;
       timed = (omega arith, held.timed);
       boots = (tt, held.boots);
       moments = (
         λ image may. one_left image (may_be_active (target_at set steps)) (may_be_active (target_at set (end_step ∷ steps))) (held.holds.leaves image (only disk.clock disk.clock image (omega arith) may)),
-        λ image may. subst (λ (state : TargetState). HoldsOneOf (may_be_active state) image) (sym same) (held.holds.leaves image (only disk.clock disk.clock image (omega arith) may)),
+        λ image may. subst (λ (state : TargetStanding). HoldsOneOf (may_be_active state) image) (sym same) (held.holds.leaves image (only disk.clock disk.clock image (omega arith) may)),
         held.moments,
       );
     }
 
-none_due : (set : Setting) (state : TargetState) → due_of_target set state None ≡ []
+none_due : (set : Setting) (state : TargetStanding) → due_of_target set state None ≡ []
 none_due set (Is_up r) = refl
 none_due set (Is_down active interrupted) = refl
 

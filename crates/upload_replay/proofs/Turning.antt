@@ -10,8 +10,8 @@ use Rattle.exchange_trace.specs.Logs.{Event, event_for, logged, loader_log}
 use Rattle.exchange_trace.specs.Posts.{IsHonest, first_port_after, happenings_of, posted_in}
 use Rattle.exchange_trace.specs.Steps.{Boot_refused, Came_up, Note, Step, Went_down, with_given}
 use Rattle.link_net.specs.Followed.{HasFollowed}
-use Rattle.link_net.specs.FollowedLaws.{followed_next}
-use Rattle.link_net.specs.Links.{Gives, LinkState, scene_of}
+use Rattle.link_net.proofs.FollowedLemmas.{followed_next}
+use Rattle.link_net.specs.Links.{LinkGives, LinkState, scene_of}
 use Rattle.session_rules.specs.Loader.{LoaderView}
 use Rattle.session_rules.specs.Laws.{LoaderFollows}
 use Rattle.session_rules.specs.LoaderLog.{LoaderReading, SessionLog, loader_reading, loader_view, session_view as loader_session}
@@ -19,13 +19,13 @@ use Rattle.session_rules.specs.MediaFiles.{Media}
 use Rattle.session_rules.specs.Target.{TargetView}
 use Rattle.session_rules.specs.TargetLog.{TargetSessionLog, session_view as target_session}
 use Rattle.loader_machine.specs.Machine.{LoaderState, media_of}
-use Rattle.replay_rules.specs.BothEnds.{Is_down, Is_up, Setting, TargetState, loader_at, reached, target_at, waiting, waits_in}
+use Rattle.replay_rules.specs.BothEnds.{Is_down, Is_up, Setting, TargetStanding, loader_at, reached, target_at, waiting, waits_in}
 use Rattle.replay_rules.specs.Due.{MayBeNoted, goes_down, is_up}
 use Rattle.replay_rules.specs.Promises.{IsNoEnd}
 use Rattle.replay_rules.specs.Ties.{IsTied, Reacts, StepKeepsTie, kept_after, kept_by, loader_next, loader_says, target_next, target_says}
 use Rattle.target_machine.specs.Decisions as machine
 use Rattle.replay_turns.specs.Ends.{HasStepped as Moved}
-use Rattle.replay_turns.specs.StepLaws.{gone_keeps_none}
+use Rattle.replay_turns.proofs.StepLemmas.{gone_keeps_none}
 use Rattle.replay_turns.specs.Targets.{TargetTurns}
 use Rattle.replay_turns.specs.Turns.{LoaderTakes, target_kept}
 use Rattle.upload_replay.specs.Drivers.{DriverState, GoesOn, IsLinked, IsTiedTo, RunGoesOn, StepsUnit}
@@ -41,7 +41,7 @@ loader_waits_is r = by r.live
     by None = refl
     by (Some s) = refl
 
-target_waits_is : (set : Setting) (state : TargetState) → has_session (kept_by state) ≡ waits_in state
+target_waits_is : (set : Setting) (state : TargetStanding) → has_session (kept_by state) ≡ waits_in state
 target_waits_is set (Is_up r) = by r.live
   where
     by : (o : Option TargetSessionLog) → is_some (target_session r.end o) ≡ is_some o
@@ -49,13 +49,13 @@ target_waits_is set (Is_up r) = by r.live
     by (Some s) = refl
 target_waits_is set (Is_down active interrupted) = refl
 
-up_is : (set : Setting) (state : TargetState) → is_some (kept_by state) ≡ is_up state
+up_is : (set : Setting) (state : TargetStanding) → is_some (kept_by state) ≡ is_up state
 up_is set (Is_up r) = refl
 up_is set (Is_down active interrupted) = refl
 
 -- ---- the target
 
-pub target_reacts : (set : Setting) (e : Option Event) (state : TargetState) (before after : Option TargetView) (posts : List DatagramView) (notes : List Note)
+pub target_reacts : (set : Setting) (e : Option Event) (state : TargetStanding) (before after : Option TargetView) (posts : List DatagramView) (notes : List Note)
     → TargetTurns set e state before after posts notes → after ≡ kept_after set notes state (reached set e state) (target_next set.accepts before e)
 target_reacts set e state before after posts [] turns = turns.0
 target_reacts set e state before after posts (Went_down ∷ []) turns = turns.0 ∙ sym (gone_keeps_none set state (reached set e state))
@@ -69,7 +69,7 @@ target_silent : (set : Setting) (before : Option TargetView) (e : Option Event) 
 target_silent set None e none = refl
 target_silent set (Some v) e none = rw none refl
 
-pub target_posts : (set : Setting) (e : Option Event) (state : TargetState) (before after : Option TargetView) (posts : List DatagramView) (notes : List Note)
+pub target_posts : (set : Setting) (e : Option Event) (state : TargetStanding) (before after : Option TargetView) (posts : List DatagramView) (notes : List Note)
     → TargetTurns set e state before after posts notes → posts ≡ cond (goes_down notes) [] (target_says set.accepts before e)
 target_posts set e state before after posts [] turns = turns.1
 target_posts set e state before after posts (Went_down ∷ []) turns = turns.1
@@ -215,12 +215,12 @@ module _ {R : Type 0} (set : Setting) (d : DriverState R) (tied : IsTiedTo set d
   target_waits = ap has_session tied.tied.target_is ∙ target_waits_is set (target_at set d.steps)
 
 module _ {R : Type 0} (set : Setting) (d : DriverState R) (script : List Line) (link given : LinkState) (h : HappeningView) (loader_side target_side : Bool) (l : loader_side ≡ is_some d.loader.view.live)
-    (t : target_side ≡ has_session (target_kept d.target)) (gives : Gives link given (scene_of link loader_side target_side) h) (tied : IsTiedTo set d) where
+    (t : target_side ≡ has_session (target_kept d.target)) (gives : LinkGives link given (scene_of link loader_side target_side) h) (tied : IsTiedTo set d) where
   -- the link as it was asked
   pub asked_on : HasFollowed (waiting set) script d.steps link → HasFollowed (waiting set) script (with_given d.steps h) given
   asked_on is = followed_next (waiting set) script d.steps link given h is
-      (subst (λ (b : Bool). Gives link given (scene_of link b (waiting set sides.Target d.steps)) h) (l ∙ loader_waits set d tied)
-      (subst (λ (b : Bool). Gives link given (scene_of link loader_side b) h) (t ∙ target_waits set d tied) gives))
+      (subst (λ (b : Bool). LinkGives link given (scene_of link b (waiting set sides.Target d.steps)) h) (l ∙ loader_waits set d tied)
+      (subst (λ (b : Bool). LinkGives link given (scene_of link loader_side b) h) (t ∙ target_waits set d tied) gives))
 
   -- with the posts of the step
   pub posts_on : (s : Step) → s.given ≡ h → HasFollowed (waiting set) script d.steps link → HasFollowed (waiting set) script (s ∷ d.steps) (link_with given s.posts)
@@ -234,14 +234,14 @@ module _ {R : Type 0} (set : Setting) (d : DriverState R) (script : List Line) (
       }
 
 -- what was given and posted
-pub linked_on : (began link given link_then : LinkState) (steps steps_then : List Step) (s : Step) (scene_loader scene_target : Bool) → Gives link given (scene_of link scene_loader scene_target) s.given → link_then ≡ link_with given s.posts
+pub linked_on : (began link given link_then : LinkState) (steps steps_then : List Step) (s : Step) (scene_loader scene_target : Bool) → LinkGives link given (scene_of link scene_loader scene_target) s.given → link_then ≡ link_with given s.posts
     → steps_then ≡ s ∷ steps → IsLinked false began link steps → IsLinked false began link_then steps_then
 linked_on began link given link_then steps steps_then s scene_loader scene_target gives linked recorded was = record {
   given = rw (linked, recorded) (gives.given ∙ ap (λ (rest : List HappeningView). s.given ∷ rest) was.given);
   posted = rw (linked, recorded) (ap (λ (posted : List DatagramView). posted ++ s.posts) (gives.posted ∙ was.posted));
 }
 
-pub linked_end : (began link given : LinkState) (steps : List Step) (h : HappeningView) (scene_loader scene_target : Bool) → h ≡ Ended → Gives link given (scene_of link scene_loader scene_target) h
+pub linked_end : (began link given : LinkState) (steps : List Step) (h : HappeningView) (scene_loader scene_target : Bool) → h ≡ Ended → LinkGives link given (scene_of link scene_loader scene_target) h
     → IsLinked false began link steps → IsLinked true began given steps
 linked_end began link given steps h scene_loader scene_target is gives was = record {
   given = gives.given ∙ (ap (λ (x : HappeningView). x ∷ link.given) is ∙ ap (λ (rest : List HappeningView). Ended ∷ rest) was.given);
@@ -262,13 +262,13 @@ is_the_end Ended e = refl
 
 -- the run goes on after a turn
 pub turn_on : {R : Type 0} (set : Setting) (began link given link_then : LinkState) (d after : DriverState R) (h : HappeningView) (posts : List DatagramView) (old new : DiskState) → StepsUnit h posts d after old new → (loader_side target_side : Bool)
-    → loader_side ≡ is_some d.loader.view.live → target_side ≡ has_session (target_kept d.target) → Gives link given (scene_of link loader_side target_side) h → link_then ≡ link_with given posts
+    → loader_side ≡ is_some d.loader.view.live → target_side ≡ has_session (target_kept d.target) → LinkGives link given (scene_of link loader_side target_side) h → link_then ≡ link_with given posts
     → RunGoesOn set false began link d → IsTiedTo set after → RunGoesOn set false began link_then after
 turn_on set began link given link_then d after h posts old new stepped loader_side target_side l t gives linked on tied =
     let step = stepped.step in
     let there : link_then ≡ link_with given step.posts = linked ∙ ap (link_with given) (sym stepped.posted) in
     record {
-      linked = linked_on began link given link_then d.steps after.steps step loader_side target_side (subst (λ (x : HappeningView). Gives link given (scene_of link loader_side target_side) x) (sym stepped.given) gives) there stepped.recorded on.linked;
+      linked = linked_on began link given link_then d.steps after.steps step loader_side target_side (subst (λ (x : HappeningView). LinkGives link given (scene_of link loader_side target_side) x) (sym stepped.given) gives) there stepped.recorded on.linked;
       tied = tied;
       follows = λ script start.
           subst (λ (steps : List Step). HasFollowed (waiting set) script steps link_then) (sym stepped.recorded)
@@ -278,7 +278,7 @@ turn_on set began link given link_then d after h posts old new stepped loader_si
 
 -- and where the end came
 pub end_on : {R : Type 0} (set : Setting) (began link given : LinkState) (d : DriverState R) (h : HappeningView) (loader_side target_side : Bool) → h ≡ Ended
-    → loader_side ≡ is_some d.loader.view.live → target_side ≡ has_session (target_kept d.target) → Gives link given (scene_of link loader_side target_side) h → RunGoesOn set false began link d → RunGoesOn set true began given d
+    → loader_side ≡ is_some d.loader.view.live → target_side ≡ has_session (target_kept d.target) → LinkGives link given (scene_of link loader_side target_side) h → RunGoesOn set false began link d → RunGoesOn set true began given d
 end_on set began link given d h loader_side target_side is l t gives on = record {
   linked = linked_end began link given d.steps h loader_side target_side is gives on.linked;
   tied = on.tied;

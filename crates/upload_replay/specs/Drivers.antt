@@ -1,7 +1,7 @@
 -- What contracts see of a driver, and what holds of it as it goes on (docs/EXCHANGE.md, "Runs").
 use Rattle.std.specs.Prelude.{◌≡◌, ℕ, List, [], ◌∷◌, ◌++◌, Bool, true, false, Option, Some}
 use Rattle.std.specs.List.{AllByRecursion}
-use Rattle.accept_rules.specs.Interlocks.{Follows}
+use Rattle.accept_rules.specs.Interlocks.{FollowsAccepts}
 use Rattle.disk_layout.specs.declared.identity.Identity.{Identity}
 use Rattle.disk_model.specs.State.{DiskState}
 use Rattle.exchange_trace.specs.Happenings.{DatagramView, HappeningView, Ended}
@@ -48,7 +48,7 @@ pub record GoesOn {R : Type 0} (d : DriverState R) : Type 0 where
 -- It stands on this setting: its media set, and what its rule accepts.
 pub record StandsOn {R : Type 0} (may_say : R → LoadHeader → List KeptLoad → Bool → Type 0) (set : Setting) (d : DriverState R) : Type 0 where
   pub media : set.media ≡ media_of d.loader.set
-  pub accepts : Follows may_say d.rule set.accepts
+  pub accepts : FollowsAccepts may_say d.rule set.accepts
   pub up : RuleFollows may_say set.accepts d.target
 
 -- What both ends keep is what the trace says of them, all that was due was posted, and only that was noted of the target which
@@ -95,7 +95,7 @@ pub record IsLinked (ended : Bool) (began link : LinkState) (steps : List Step) 
   pub posted : link.posted ≡ posted_in steps
 
 -- A turn may come: the driver can be used, and the link was posted exactly what its ends posted.
-pub record IsReady {R : Type 0} (link : LinkState) (d : DriverState R) (disk : DiskState) : Type 0 where
+pub record IsDriverReady {R : Type 0} (link : LinkState) (d : DriverState R) (disk : DiskState) : Type 0 where
   pub goes_on : GoesOn d
   pub running : RunsWhileUp d.target disk
   pub posted : link.posted ≡ posted_in d.steps

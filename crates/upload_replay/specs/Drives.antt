@@ -1,7 +1,7 @@
 -- What holds of a run as it goes on, and once it came to its end (docs/EXCHANGE.md, "Runs").
 use Rattle.std.specs.Prelude.{◌≡◌, List, [], ◌∷◌, ◌++◌, Bool, true, false, is_some, Option, Some, None, ⊤}
 use Rattle.std.specs.List.{AllByRecursion}
-use Rattle.accept_rules.specs.Interlocks.{Follows}
+use Rattle.accept_rules.specs.Interlocks.{FollowsAccepts}
 use Rattle.load_header.specs.declared.header.LoadHeader.{LoadHeader}
 use Rattle.accept_rules.specs.declared.kept.KeptLoad.{KeptLoad}
 use Rattle.disk_layout.specs.Holds.{HoldsConfig, StandingView}
@@ -85,7 +85,7 @@ NeverBoots steps = AllByRecursion (λ (s : Step). IsNoBoot s.given) steps
 -- A run stands on this media set, on this interlock, and on what this image of the disk holds.
 pub record IsSet {R : Type 0} (may_say : R → LoadHeader → List KeptLoad → Bool → Type 0) (set : Setting) (interlock : R) (shown : SetView) (image : Image) : Type 0 where
   pub media : set.media ≡ media_of shown
-  pub accepts : Follows may_say interlock set.accepts
+  pub accepts : FollowsAccepts may_say interlock set.accepts
   pub start : HoldsConfig image set.start
 
 -- In every run the trace has the end last and once, and the link gave exactly its happenings and was posted exactly its posts.
@@ -107,7 +107,7 @@ pub record IsUnitRun (set : Setting) (steps : List Step) (sessions : List EndedS
 -- A run came to its end: its trace has the end last and once, exactly what was due was posted, and only that was noted of the
 -- target which may be; the link was posted and gave exactly what the trace has; the loader has one session for each start; and
 -- all is kept that is promised of a run with these sessions, at whose end this was recovered.
-pub record IsRun (set : Setting) (began ended : LinkState) (steps : List Step) (sessions : List EndedSession) (standing : Option StandingView) : Type 0 where
+pub record IsDrivenRun (set : Setting) (began ended : LinkState) (steps : List Step) (sessions : List EndedSession) (standing : Option StandingView) : Type 0 where
   pub trace : IsTrace set steps
   pub carries : AllCarryBytes steps
   pub posted : ended.posted ≡ posted_in steps

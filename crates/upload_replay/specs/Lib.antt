@@ -6,7 +6,6 @@ pub mod Faults
 pub mod Leaves
 pub mod Lives
 pub mod Moments
-pub mod OrderLaws
 pub mod Orders
 pub mod Texts
 pub mod Turns

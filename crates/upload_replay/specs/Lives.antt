@@ -1,6 +1,6 @@
 -- What the target of a run does of whose disk nothing is known (docs/EXCHANGE.md, "Runs").
 use Rattle.std.specs.Prelude.{◌≡◌, ℕ, List, [], ◌∷◌, ◌++◌, Bool, Option}
-use Rattle.accept_rules.specs.Interlocks.{Follows}
+use Rattle.accept_rules.specs.Interlocks.{FollowsAccepts}
 use Rattle.accept_rules.specs.Permissions.{Accepts}
 use Rattle.load_header.specs.declared.header.LoadHeader.{LoadHeader}
 use Rattle.accept_rules.specs.declared.kept.KeptLoad.{KeptLoad}
@@ -37,6 +37,6 @@ LivesThrough media accepts steps = (target : Option TargetView) × HasLived medi
 
 -- The target of a driver so lived so far, whose rule accepts these loads.
 pub record LivesOn {R : Type 0} (may_say : R → LoadHeader → List KeptLoad → Bool → Type 0) (accepts : Accepts) (d : DriverState R) : Type 0 where
-  pub follows : Follows may_say d.rule accepts
+  pub follows : FollowsAccepts may_say d.rule accepts
   pub up : RuleFollows may_say accepts d.target
   pub lived : HasLived (media_of d.loader.set) accepts d.steps (target_kept d.target)

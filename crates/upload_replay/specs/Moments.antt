@@ -6,7 +6,7 @@ use Rattle.disk_model.specs.Moments.{LeavesOnly}
 use Rattle.disk_model.specs.State.{DiskState}
 use Rattle.disk_layout.specs.Holds.{HoldsConfig, StandingView}
 use Rattle.exchange_trace.specs.Steps.{Step}
-use Rattle.replay_rules.specs.BothEnds.{Setting, TargetState, target_at}
+use Rattle.replay_rules.specs.BothEnds.{Setting, TargetStanding, target_at}
 use Rattle.replay_rules.specs.Histories.{active_by, may_be_active}
 use Rattle.replay_rules.specs.Promises.{AllMoments, HoldsOneOf}
 use Rattle.run_promises.specs.Promises.{HoldsFirstOrGood}
@@ -48,7 +48,7 @@ pub record HeldSoFar {R : Type 0} (set : Setting) (since : ℕ) (clocks : List �
 -- ---- a whole run
 
 -- Where a configuration was recovered at the end, the disk holds nothing else; otherwise one that may be active then.
-abbrev pub LeftAtEnd : TargetState → Option StandingView → Image → Type 0
+abbrev pub LeftAtEnd : TargetStanding → Option StandingView → Image → Type 0
 LeftAtEnd state None image = HoldsOneOf (may_be_active state) image
 LeftAtEnd state (Some standing) image = HoldsConfig image standing
 

@@ -1,13 +1,13 @@
 //! A loader and the target of one disk, happening by happening.
 ghost use Rattle.std.specs.Prelude.{◌≡◌, ◌∷◌, [], ℕ, IfErr, IfOk, Some, map, option_map};
 ghost use Rattle.std.specs.Prelude.{OnOk, is_some, false, true};
-ghost use Rattle.accept_rules.specs.Interlocks.{Follows};
+ghost use Rattle.accept_rules.specs.Interlocks.{FollowsAccepts};
 ghost use Rattle.accept_rules.specs.Permissions.{Accepts};
 ghost use Rattle.bank_store.specs.DiskWrites.{IsRunning};
 ghost use Rattle.bank_store.specs.Fits.{LosesOnlyWork};
 ghost use Rattle.disk_layout.specs.Holds.{standing_view};
 ghost use Rattle.disk_model.specs.Image.{Image};
-ghost use Rattle.disk_model.specs.State.{KeepsPower, OnlyReads};
+ghost use Rattle.disk_model.specs.State.{OnlyReads};
 ghost use Rattle.exchange_trace.specs.declared.trace.Side.TheVariants as sides;
 ghost use Rattle.exchange_trace.specs.Happenings.{Booted, happening_view};
 ghost use Rattle.exchange_trace.specs.Logs.{event_for};
@@ -20,15 +20,15 @@ ghost use Rattle.replay_rules.specs.Changes.{InjectsBytes};
 ghost use Rattle.replay_rules.specs.Promises.{IsNoEnd};
 ghost use Rattle.replay_turns.specs.Orders.{IsInOrder};
 ghost use Rattle.replay_turns.specs.Powers.{ArmsBy, RoseBy, disk_stops};
-ghost use Rattle.replay_turns.specs.StepsOnDisks.{AddsInStep, HoldsRun, LeavesNoMore, Reboots};
+ghost use Rattle.replay_turns.specs.StepsOnDisks.{AddsInStep, HoldsRun, Reboots};
 ghost use Rattle.replay_turns.specs.Turns.{RunsWhileUp, target_kept};
 ghost use Rattle.transfer_end.specs.Calls.{posts_view};
 ghost use Rattle.upload_replay.specs.Drivers.{BeginsUnit, GoesOn, HoldsUnit, IsTiedTo};
-ghost use Rattle.upload_replay.specs.Drivers.{StandsOn, StepsUnit, end_step};
-ghost use Rattle.upload_replay.specs.Drives.{IsLoadersRun, IsSet, IsUnitRun, NeverBoots};
+ghost use Rattle.upload_replay.specs.Drivers.{StandsOn, StepsUnit};
+ghost use Rattle.upload_replay.specs.Drives.{IsSet, IsUnitRun, NeverBoots};
 ghost use Rattle.upload_replay.specs.Drives.{has_session};
 ghost use Rattle.upload_replay.specs.Endings.{EndsUnit, FailsToBegin, FailedIfUnknown, HoldsSome};
-ghost use Rattle.upload_replay.specs.Endings.{HoldsStanding, IsEndFault, LeavesUnit, first_fault_of};
+ghost use Rattle.upload_replay.specs.Endings.{IsEndFault, LeavesUnit, first_fault_of};
 ghost use Rattle.upload_replay.specs.Lives.{LivesOn, LivesThrough};
 ghost use Rattle.upload_replay.specs.Moments.{Clocks, HoldsThroughout};
 
@@ -97,7 +97,7 @@ impl<'m, R: Rule> Driver<'m, R> {
             (set_view media.now) image → (K.state disk.old).reads ≡ Some image
             → LosesOnlyWork (K.state disk.old) → IfOk result (λ driver. HoldsUnit set
             (K.state disk.old).clock [] driver (K.state disk.new)) }
-        ensures lives { (accepts : Accepts) → Follows R.may_say interlock.now accepts
+        ensures lives { (accepts : Accepts) → FollowsAccepts R.may_say interlock.now accepts
             → IfOk result (λ driver. LivesOn R.may_say accepts driver) }
         ensures stood { OnOk result (HoldsSome (K.state disk.old)) }
         // Refusals, and whatever it answers.
@@ -186,7 +186,8 @@ impl<'m, R: Rule> Driver<'m, R> {
             (K.state disk.new)) }
         ensures rests { (set : Setting) (since : ℕ) (clocks : Clocks)
             → HoldsUnit set since clocks self.entry (K.state disk.old)
-            → IfOk result (λ drive. is_some drive.standing ≡ true → LosesOnlyWork (K.state disk.new)) }
+            → IfOk result (λ drive. is_some drive.standing ≡ true
+            → LosesOnlyWork (K.state disk.new)) }
         ensures unknown { (began : ℕ) → RoseBy (disk_stops self.entry.steps) began
             (K.state disk.old).faults → IfOk result (λ drive. FailedIfUnknown drive.standing began
             (disk_stops self.entry.steps) (K.state disk.new)) }

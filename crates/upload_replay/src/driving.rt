@@ -1,7 +1,7 @@
 //! A whole run.
-ghost use Rattle.std.specs.Prelude.{◌≡◌, ◌⊎◌, ℕ, [], List, Some, map, option_map};
+ghost use Rattle.std.specs.Prelude.{◌≡◌, ◌⊎◌, [], Some, map, option_map};
 ghost use Rattle.std.specs.Prelude.{true, is_some, IfOk};
-ghost use Rattle.accept_rules.specs.Interlocks.{Follows};
+ghost use Rattle.accept_rules.specs.Interlocks.{FollowsAccepts};
 ghost use Rattle.bank_store.specs.DiskWrites.{IsRunning};
 ghost use Rattle.bank_store.specs.Fits.{LosesOnlyWork};
 ghost use Rattle.disk_layout.specs.Holds.{standing_view};
@@ -11,7 +11,7 @@ ghost use Rattle.loader_machine.specs.Machine.{media_of, session_view};
 ghost use Rattle.media_check.specs.Sets.{set_view};
 ghost use Rattle.replay_rules.specs.BothEnds.{Setting};
 ghost use Rattle.upload_replay.specs.Armings.{ArmsAsGiven};
-ghost use Rattle.upload_replay.specs.Drives.{IsRun, IsSet, NeverBoots};
+ghost use Rattle.upload_replay.specs.Drives.{IsDrivenRun, IsSet, NeverBoots};
 ghost use Rattle.upload_replay.specs.Endings.{EndsRun, IsRefused};
 ghost use Rattle.upload_replay.specs.Leaves.{LeavesHistory};
 ghost use Rattle.upload_replay.specs.Lives.{LivesThrough};
@@ -44,14 +44,14 @@ pub fn drive<L: Link, K: Power, R: Rule>(
     ensures ended { IfOk result (λ drive. EndsRun (media_of (set_view media.now))
         (L.state link.old) (L.state link.new) drive (K.state disk.old) (K.state disk.new)) }
     // Both ends posted what was due, in each of the target's lives.
-    ensures lives { (accepts : Accepts) → Follows R.may_say interlock.now accepts
+    ensures lives { (accepts : Accepts) → FollowsAccepts R.may_say interlock.now accepts
         → IfOk result (λ drive. LivesThrough (media_of (set_view media.now)) accepts
         (steps_of drive.trace.items)) }
     // The same on a disk that tells its content.
     ensures run { (set : Setting) (image : Image) → IsSet R.may_say set interlock.now
         (set_view media.now) image → (K.state disk.old).reads ≡ Some image → IfOk result
         (λ drive. NeverBoots (steps_of drive.trace.items) ⊎ LosesOnlyWork (K.state disk.old)
-        → IsRun set (L.state link.old) (L.state link.new) (steps_of drive.trace.items)
+        → IsDrivenRun set (L.state link.old) (L.state link.new) (steps_of drive.trace.items)
         (map session_view drive.sessions.items) (option_map standing_view drive.standing)) }
     ensures moments { (set : Setting) (image : Image) → IsSet R.may_say set interlock.now
         (set_view media.now) image → (K.state disk.old).reads ≡ Some image

@@ -21,7 +21,8 @@ pub fn what_a_run_leaves_is_no_older<K: Disk>()
         → AllByRecursion (IsNoOlder set.start)
         (brought_last set steps last ++ all_active set steps) }
     ensures left { (set : Setting) (began link : LinkState) (since : ℕ) (disk : K)
-        (result : Result Drive DriveFault) → LeavesHistory set began link since (K.state disk) result
+        (result : Result Drive DriveFault)
+        → LeavesHistory set began link since (K.state disk) result
         → LeavesOnly since (HoldsNoOlder set.start) (K.state disk) }
 {
     // For the proof: does nothing.

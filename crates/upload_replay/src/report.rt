@@ -6,9 +6,12 @@ ghost use Rattle.std.specs.List.{count_by, flat_map};
 ghost use Rattle.disk_layout.specs.Holds.{standing_view};
 ghost use Rattle.load_protocol_files.specs.Lcl.{hardware_view, lcl_view};
 ghost use Rattle.loader_machine.specs.Machine.{session_view};
-ghost use Rattle.upload_replay.specs.Texts.{datagrams_line, file_kind_text, hardware_lines, is_post};
-ghost use Rattle.upload_replay.specs.Texts.{kind_text, listed_lines, outcome_text, part_line, report};
-ghost use Rattle.upload_replay.specs.Texts.{report_lines, session_line, session_lines, sessions_from};
+ghost use Rattle.upload_replay.specs.Texts.{datagrams_line, file_kind_text, hardware_lines};
+ghost use Rattle.upload_replay.specs.Texts.{is_post};
+ghost use Rattle.upload_replay.specs.Texts.{kind_text, listed_lines, outcome_text, part_line};
+ghost use Rattle.upload_replay.specs.Texts.{report};
+ghost use Rattle.upload_replay.specs.Texts.{report_lines, session_line, session_lines};
+ghost use Rattle.upload_replay.specs.Texts.{sessions_from};
 
 use crate::outcome::Drive;
 use disk_layout::Standing;
@@ -37,6 +40,7 @@ pub fn report_text(alloc: Global, drive: &Drive) -> Result<Bytes, NoMemory>
             put_report(alloc, &mut out, drive.sessions.as_slice(), posted, standing)?;
             Ok(out)
         }
+        // A run that has ended stands somewhere.
         None => unreachable!(),
     }
 }

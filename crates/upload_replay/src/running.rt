@@ -6,7 +6,8 @@ ghost use Rattle.link_net.specs.Links.{LinkState};
 ghost use Rattle.media_check.specs.Sets.{SetView};
 ghost use Rattle.replay_rules.specs.BothEnds.{Setting};
 ghost use Rattle.upload_replay.specs.Armings.{ArmsAsGiven};
-ghost use Rattle.upload_replay.specs.Drivers.{IsReady, IsUnderWay, RunGoesOn, RunsOnDisk, StandsOn};
+ghost use Rattle.upload_replay.specs.Drivers.{IsDriverReady, IsUnderWay, RunGoesOn, RunsOnDisk};
+ghost use Rattle.upload_replay.specs.Drivers.{StandsOn};
 ghost use Rattle.upload_replay.specs.Drives.{NeverBoots};
 ghost use Rattle.upload_replay.specs.Drives.{is_end as is_end_of};
 ghost use Rattle.upload_replay.specs.Leaves.{LeavesHistory};
@@ -28,11 +29,12 @@ pub(crate) fn run_to_end<L: Link, K: Power, R: Rule>(
     disk: &mut K,
     driver: &mut Driver<'_, R>,
 ) -> Result<(), DriveFault>
-    requires { IsReady (L.state link.old) driver.old (K.state disk.old) }
+    requires { IsDriverReady (L.state link.old) driver.old (K.state disk.old) }
     // With Ok.
-    ensures ready { OnOk result (IsReady (L.state link.new) driver.new (K.state disk.new)) }
+    ensures ready { OnOk result (IsDriverReady (L.state link.new) driver.new (K.state disk.new)) }
     ensures under_way { (began : LinkState) (faults : ℕ) (media : SetView) → IsUnderWay false
-        began (L.state link.old) faults media driver.old (K.state disk.old) → OnOk result (IsUnderWay true
+        began (L.state link.old) faults media driver.old (K.state disk.old)
+        → OnOk result (IsUnderWay true
         began (L.state link.new) faults media driver.new (K.state disk.new)) }
     ensures lives { (accepts : Accepts) → LivesOn R.may_say accepts driver.old
         → OnOk result (LivesOn R.may_say accepts driver.new) }
@@ -79,9 +81,9 @@ fn turn<L: Link, K: Power, R: Rule>(
     disk: &mut K,
     driver: &mut Driver<'_, R>,
 ) -> Result<bool, DriveFault>
-    requires { IsReady (L.state link.old) driver.old (K.state disk.old) }
+    requires { IsDriverReady (L.state link.old) driver.old (K.state disk.old) }
     // With Ok.
-    ensures ready { OnOk result (IsReady (L.state link.new) driver.new (K.state disk.new)) }
+    ensures ready { OnOk result (IsDriverReady (L.state link.new) driver.new (K.state disk.new)) }
     ensures under_way { (began : LinkState) (faults : ℕ) (media : SetView) → IsUnderWay false
         began (L.state link.old) faults media driver.old (K.state disk.old) → IfOk result (λ ended.
         IsUnderWay ended began (L.state link.new) faults media driver.new (K.state disk.new)) }
@@ -104,7 +106,8 @@ fn turn<L: Link, K: Power, R: Rule>(
         (K.state disk.old) (K.state disk.new) }
     ensures leaves { (set : Setting) (began : LinkState) (since : ℕ)
         → StandsOn R.may_say set driver.old → RunsOnDisk set false began (L.state link.old) since
-        driver.old (K.state disk.old) → IfErr result (λ fault. LeavesHistory {T = Bool} set began (L.state link.new) since
+        driver.old (K.state disk.old)
+        → IfErr result (λ fault. LeavesHistory {T = Bool} set began (L.state link.new) since
         (K.state disk.new) (Err fault)) }
 {
     let waits = driver.waits();

@@ -4,8 +4,8 @@ ghost use Rattle.std.specs.Prelude.{◌≡◌, ◌∷◌, ◌++◌, [], IfOk, On
 ghost use Rattle.hex.specs.Hex.{encode_lower};
 ghost use Rattle.exchange_trace.specs.Happenings.{datagram_view, happening_view, other};
 ghost use Rattle.upload_replay.specs.Texts.{given_line, inject_line, numbered_line, post_line};
-ghost use Rattle.upload_replay.specs.Texts.{posted_with, side_text, size_text, spaced, step_line};
-ghost use Rattle.upload_replay.specs.Texts.{upload_line, wire, wire_from};
+ghost use Rattle.upload_replay.specs.Texts.{side_text, spaced, step_line};
+ghost use Rattle.upload_replay.specs.Texts.{upload_line, wire};
 
 use crate::outcome::Drive;
 use exchange_trace::{Datagram, Happening, Side, TraceStep};

@@ -1,5 +1,5 @@
-//! Files and datagrams of worked examples, which several crates of tests read. Their bytes come from
-//! outside of this project.
+//! Files and datagrams of worked examples, which several crates of tests read. Their bytes come
+//! from outside of this project.
 #![tactic(auto)]
 
 /// A header for hardware HW1 in any position, of a load with one file of nine bytes, `APP.BIN`.

@@ -49,7 +49,7 @@ use Rattle.exchange_trace.specs.Steps.{Step}
 use Rattle.session_rules.specs.declared.outcome.Outcome.TheVariants.{Completed}
 use Rattle.session_rules.specs.declared.outcome.SessionKind.TheVariants.{Upload}
 use Rattle.session_rules.specs.NewConfigs.{IsGoodLoad}
-use Rattle.session_rules.specs.SoundnessLaws.{HeadersAreSpelled}
+use Rattle.session_rules.proofs.SoundnessLemmas.{HeadersAreSpelled}
 use Rattle.replay_rules.specs.FaultFree.{IsFaultFree, IsGranted}
 use Rattle.replay_rules.specs.Promises.{OnlyFinishIsLeft}
 use Rattle.replay_rules.specs.Runs.{IsWithinMargin}

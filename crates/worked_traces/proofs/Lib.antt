@@ -12,3 +12,4 @@ pub mod OtherHardwareRun
 pub mod TwoUploadsRun
 pub mod OtherTypeRun
 pub mod OldLayoutRun
+pub mod WalkLemmas

@@ -1,5 +1,4 @@
 pub mod Walks
-pub mod WalkLaws
 pub mod Writing
 pub mod Settings
 pub mod Information

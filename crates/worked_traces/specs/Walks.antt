@@ -11,15 +11,15 @@ use Rattle.exchange_trace.specs.Steps.{Step}
 use Rattle.session_rules.specs.declared.outcome.Outcome.{Outcome}
 use Rattle.session_rules.specs.Loader.{EndedSession}
 use Rattle.session_rules.specs.LoaderLog.{LoaderReading, loader_extended}
-use Rattle.replay_rules.specs.BothEnds.{Setting, TargetState, loader_at, noted, reached, target_at, waiting, waits_in}
+use Rattle.replay_rules.specs.BothEnds.{Setting, TargetStanding, loader_at, noted, reached, target_at, waiting, waits_in}
 use Rattle.replay_rules.specs.Due.{AllDue, AllNoted, MayBeNoted, due_of_loader, due_of_target, goes_down, is_up}
 use Rattle.replay_rules.specs.Histories.{active_at}
-use Rattle.replay_rules.specs.Runs.{Follows}
+use Rattle.replay_rules.specs.Runs.{TraceFollows}
 
 -- where the walk stands: both ends, all that was posted, all that happened, and what is left of the script
 pub record Walk : Type 0 where
   pub loader : LoaderReading
-  pub target : TargetState
+  pub target : TargetStanding
   pub posted : List DatagramView
   pub happenings : List HappeningView
   pub plan : Plan
@@ -86,7 +86,7 @@ parts_after run = map (λ (load : LoadView). load.part) (active_at run.setting (
 -- sequence number active.
 pub record IsWorked (run : WorkedRun) (left : List ℕ) (outcomes : List Outcome) (sequence : ℕ) : Type 0 where
   pub due : AllDue run.setting (steps_in run)
-  pub followed : Follows run.setting run.script (steps_in run)
+  pub followed : TraceFollows run.setting run.script (steps_in run)
   pub noted : AllNoted run.setting (steps_in run)
   pub left_is : undelivered_after (steps_in run) ≡ left
   pub outcomes_are : map (λ (s : EndedSession). s.outcome) (loader_at run.setting (steps_in run)).ended ≡ outcomes

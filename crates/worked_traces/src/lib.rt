@@ -43,6 +43,7 @@ pub fn upload()
 pub fn upload_is_fault_free()
     ensures { IsFaultFree upload_run.setting (steps_in upload_run) }
 {
+    // For the proof: does nothing.
     header_laws();
 }
 
@@ -58,6 +59,7 @@ pub fn losses_are_fault_free()
     ensures left { OnlyFinishIsLeft losses_run.setting losses_run.script (first_steps 21
         losses_run) }
 {
+    // For the proof: does nothing.
     header_laws();
 }
 

@@ -28,7 +28,7 @@ impl Format for Nothing {
 }
 
 #[test]
-#[tactic(auto, using(field_grammar::specs::ExactLaws::ends_at_end))]
+#[tactic(auto, using(field_grammar::proofs::ExactLemmas::ends_at_end))]
 fn laws_hold_of_a_format(_rt: HostRuntime) {
     reading_is_exact::<Number>();
     prefix_is_decided::<Number>();

@@ -9,7 +9,7 @@ use std::os::unix::fs::symlink;
 use std::rt::Files;
 use std::test::Fail;
 
-// The refusal of a text, or nothing where it was read as these bytes.
+/// The refusal of a text, or nothing where it was read as these bytes.
 fn text_refusal(alloc: Global, bytes: &[u8]) -> Option<TextFault> {
     match Text::read(alloc, bytes) {
         Ok(text) if text.as_slice() == bytes => None,
@@ -43,7 +43,7 @@ fn is_text(text: Result<Text, NoMemory>, bytes: &[u8]) -> bool {
     }
 }
 
-// Whether these bytes are a name and its text, and two readings of them are equal and hash alike.
+/// Whether these bytes are a name and its text, and two readings of them are equal and hash alike.
 fn name_is_text(alloc: Global, bytes: &[u8]) -> bool {
     let (Ok(one), Ok(other)) = (Name::read(bytes), Name::read(bytes)) else {
         return false;
@@ -81,7 +81,7 @@ fn names_are_texts(rt: HostRuntime) -> Result<(), Fail> {
     Ok(())
 }
 
-// What three texts are answered, and whether a sink has them but the second then.
+/// What three texts are answered, and whether a sink has them but the second then.
 type Put = ([Result<(), WriteFault>; 3], bool);
 
 fn put_three(sink: &mut MemSink) -> Result<Put, NoMemory> {
@@ -100,7 +100,7 @@ fn what_was_put(rt: HostRuntime) -> Result<(), Fail> {
     Ok(())
 }
 
-// The refusal of a read, or nothing where it gave these bytes. Other bytes count as out of memory.
+/// The refusal of a read, or nothing where it gave these bytes. Other bytes count as out of memory.
 fn outcome<H: Host>(alloc: Global, host: &mut H, name: &[u8], bytes: &[u8]) -> Option<ReadFault> {
     match host.read(alloc, name) {
         Ok(found) if found.as_slice() == bytes => None,
@@ -111,7 +111,7 @@ fn outcome<H: Host>(alloc: Global, host: &mut H, name: &[u8], bytes: &[u8]) -> O
 
 const WRITTEN: [(&[u8], &[u8]); 3] = [(b"a/one", b"first"), (b"two", b""), (b"a/one", b"second")];
 
-// What three reads of a host with these files are refused with.
+/// What three reads of a host with these files are refused with.
 fn read_three(alloc: Global, host: &mut MemHost) -> Result<[Option<ReadFault>; 3], Fail> {
     host.fail_at(4)?;
     for &(name, bytes) in &WRITTEN {
@@ -134,7 +134,7 @@ fn a_host_in_memory(rt: HostRuntime) -> Result<(), Fail> {
     Ok(())
 }
 
-// `count` zero bytes.
+/// `count` zero bytes.
 fn zeros(alloc: Global, count: usize) -> Result<Bytes, NoMemory> {
     let mut bytes = Bytes::new(alloc);
     let piece = [0; 65_536];
@@ -145,8 +145,8 @@ fn zeros(alloc: Global, count: usize) -> Result<Bytes, NoMemory> {
     Ok(bytes)
 }
 
-// Writes a file of `count` zeros and reads it again: the refusal, or nothing where those bytes came
-// back.
+/// Writes a file of `count` zeros and reads it again: the refusal, or nothing where those bytes
+/// came back.
 fn there_and_back<R: Files<File = File>>(rt: &R, alloc: Global, count: usize) -> Option<ReadFault> {
     let mut host = StdHost::new(rt);
     let Ok(bytes) = zeros(alloc, count) else {
@@ -166,8 +166,8 @@ const SYSTEM: [(&[u8], Option<ReadFault>); 5] = [
     (b"\xFF", Some(ReadFault::Failed)),
 ];
 
-// A file in folders that are missing, a folder in place of a file, a file in place of a folder, and
-// the longest file.
+/// A file in folders that are missing, a folder in place of a file, a file in place of a folder,
+/// and the longest file.
 #[test]
 fn the_files_of_the_system(rt: HostRuntime) -> Result<(), Fail> {
     let mut host = StdHost::new(&rt);
@@ -188,7 +188,7 @@ fn the_files_of_the_system(rt: HostRuntime) -> Result<(), Fail> {
     Ok(())
 }
 
-// Writes over a longer file, over a link, and beside what a killed run left.
+/// Writes over a longer file, over a link, and beside what a killed run left.
 fn replaced(rt: &HostRuntime, alloc: Global) -> Result<[Option<ReadFault>; 3], Fail> {
     let mut host = StdHost::new(rt);
     host.write(b"replaced/file", b"longer")?;

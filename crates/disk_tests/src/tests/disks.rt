@@ -12,7 +12,7 @@ use std::fs;
 use std::os::unix::fs::symlink;
 use std::test::Fail;
 
-// The first eight bytes of a disk.
+/// The first eight bytes of a disk.
 fn prefix<K: Disk>(disk: &mut K) -> Result<[u8; 8], DiskFault>
     requires { (K.state disk.old).stopped ≡ false }
     ensures { (K.state disk.new).stopped ≡ is_err result }
@@ -22,8 +22,8 @@ fn prefix<K: Disk>(disk: &mut K) -> Result<[u8; 8], DiskFault>
     Ok(bytes)
 }
 
-// The notes of a disk: `w`, its offset and its bytes, `s` or `r` for each call, and `!` after one
-// that wasn't done.
+/// The notes of a disk: `w`, its offset and its bytes, `s` or `r` for each call, and `!` after one
+/// that wasn't done.
 fn notes_of(alloc: Global, disk: &MemDisk) -> Result<Bytes, Fail> {
     let mut text = Bytes::new(alloc);
     for note in disk.notes() {
@@ -60,7 +60,8 @@ fn five_calls<K: Disk>(disk: &mut K) -> Result<(), DiskFault>
     Ok(())
 }
 
-// The notes after five calls and a restart, of which the call of this number and the next one fail.
+/// The notes after five calls and a restart, of which the call of this number and the next one
+/// fail.
 fn notes_of_failing(alloc: Global, call: u32) -> Result<Bytes, Fail> {
     let mut disk = MemDisk::new(alloc, &[1, 2, 3])?;
     let notes = fail_twice(alloc, &mut disk, call);
@@ -109,8 +110,8 @@ fn six_calls<K: Disk>(disk: &mut K) -> Result<(), DiskFault>
     Ok(())
 }
 
-// A disk whose power can be lost, over one in memory: it reads as these bytes, and a power loss
-// leaves nothing else.
+/// A disk whose power can be lost, over one in memory: it reads as these bytes, and a power loss
+/// leaves nothing else.
 fn fused(alloc: Global, bytes: &[u8]) -> Result<Fused<MemDisk>, NoMemory>
     requires { length bytes.now ≤ SIZE }
     ensures running { IfOk result (λ disk. (state_of Mem.state_of disk).stopped ≡ false) }
@@ -123,7 +124,7 @@ fn fused(alloc: Global, bytes: &[u8]) -> Result<Fused<MemDisk>, NoMemory>
     Ok(Fused::new(MemDisk::new(alloc, bytes)?))
 }
 
-// The first bytes after a restart, where power is lost at this one of six calls.
+/// The first bytes after a restart, where power is lost at this one of six calls.
 fn after_a_loss(alloc: Global, calls: u32, pick: u32) -> Result<[u8; 8], Fail> {
     let mut disk = fused(alloc, &[1, 2, 3, 4, 5, 6, 7, 8])?;
     disk.arm(calls.max(1), pick);
@@ -171,7 +172,7 @@ fn a_power_loss_spoils_what_wasnt_synced(rt: HostRuntime) -> Result<(), Fail> {
     Ok(())
 }
 
-// Four bytes, each one apart from the last.
+/// Four bytes, each one apart from the last.
 fn four_ranges<K: Disk>(disk: &mut K, at: u32) -> Result<(), DiskFault>
     requires running { (K.state disk.old).stopped ≡ false }
     requires within { at ≤ 99 }
@@ -183,7 +184,7 @@ fn four_ranges<K: Disk>(disk: &mut K, at: u32) -> Result<(), DiskFault>
     disk.write(at + 6, &[9])
 }
 
-// The first of 16 such bytes after a loss, where perhaps one more is written.
+/// The first of 16 such bytes after a loss, where perhaps one more is written.
 fn first_of_ranges(alloc: Global, more: bool) -> Result<u8, Fail> {
     let mut disk = fused(alloc, &[])?;
     let first = first_after(&mut disk, more);
@@ -214,8 +215,8 @@ fn a_seventeenth_range_is_synced_before(rt: HostRuntime) -> Result<(), Fail> {
     Ok(())
 }
 
-// Whether power is lost at the second sync after a restart, for which it was armed before, and
-// perhaps lost once more.
+/// Whether power is lost at the second sync after a restart, for which it was armed before, and
+/// perhaps lost once more.
 fn second_sync_fails(alloc: Global, again: bool) -> Result<bool, Fail> {
     let mut disk = fused(alloc, &[])?;
     disk.arm(0, 0);
@@ -241,7 +242,7 @@ fn an_arming_outlasts_a_restart(rt: HostRuntime) -> Result<(), Fail> {
     Ok(())
 }
 
-// Writes over two openings of a file, the first of which makes it.
+/// Writes over two openings of a file, the first of which makes it.
 fn write_file(rt: &HostRuntime, name: &str) -> Result<[u8; 8], DiskFault> {
     write_twice(&mut FileDisk::new(rt, &OpenedFiles::new(), name))
 }
@@ -256,7 +257,7 @@ fn write_twice<K: Disk>(disk: &mut K) -> Result<[u8; 8], DiskFault>
     prefix(disk)
 }
 
-// The last bytes of a disk in a file, and those from its end on.
+/// The last bytes of a disk in a file, and those from its end on.
 fn ends(rt: &HostRuntime, name: &str) -> Result<[u8; 6], DiskFault> {
     six(&mut FileDisk::new(rt, &OpenedFiles::new(), name))
 }
@@ -270,7 +271,7 @@ fn six<K: Disk>(disk: &mut K) -> Result<[u8; 6], DiskFault>
     Ok(bytes)
 }
 
-// Two bytes of a disk.
+/// Two bytes of a disk.
 fn two<K: Disk>(disk: &mut K, at: u32) -> Result<[u8; 2], DiskFault>
     requires within { at ≤ 8 }
     requires running { (K.state disk.old).stopped ≡ false }
@@ -281,7 +282,7 @@ fn two<K: Disk>(disk: &mut K, at: u32) -> Result<[u8; 2], DiskFault>
     Ok(bytes)
 }
 
-// Writes and reads of which most begin where the call before them ended.
+/// Writes and reads of which most begin where the call before them ended.
 fn back_to_back(rt: &HostRuntime, name: &str) -> Result<[[u8; 2]; 5], DiskFault> {
     write_on(&mut FileDisk::new(rt, &OpenedFiles::new(), name))
 }
@@ -306,8 +307,8 @@ fn sync_file(rt: &HostRuntime, name: &str) -> Result<(), DiskFault> {
     FileDisk::new(rt, &OpenedFiles::new(), name).sync()
 }
 
-// What a disk in a file that isn't there reads; whether the file is there after a sync; and what it
-// has after writes over two openings.
+/// What a disk in a file that isn't there reads; whether the file is there after a sync; and what
+/// it has after writes over two openings.
 fn made_by_a_write(rt: &HostRuntime, name: &str) -> Result<([u8; 8], bool, [u8; 8]), Fail> {
     let read = read_first(rt, name)?;
     sync_file(rt, name)?;
@@ -335,7 +336,7 @@ fn a_disk_in_a_file_goes_on_where_it_ended(rt: HostRuntime) -> Result<(), Fail> 
     Ok(())
 }
 
-// A disk whose power can be lost, over one in a file.
+/// A disk whose power can be lost, over one in a file.
 fn fused_file<'r>(
     rt: &'r HostRuntime,
     opened: &'r OpenedFiles,
@@ -349,7 +350,7 @@ fn fused_file<'r>(
     Fused::new(FileDisk::new(rt, opened, name))
 }
 
-// Whether a write fails at which power is lost over a file, and the first bytes after another one.
+/// Whether a write fails at which power is lost over a file, and the first bytes after another one.
 fn lost_over_a_file(rt: &HostRuntime, name: &str) -> Result<(bool, [u8; 8]), Fail> {
     let opened = OpenedFiles::new();
     let mut disk = fused_file(rt, &opened, name);
@@ -376,7 +377,7 @@ fn power_is_lost_over_a_file(rt: HostRuntime) -> Result<(), Fail> {
     Ok(())
 }
 
-// Whether the second of two disks of a program fails, while the first has the file.
+/// Whether the second of two disks of a program fails, while the first has the file.
 fn second_fails<'r>(
     rt: &'r HostRuntime,
     first: &'r str,
@@ -399,7 +400,7 @@ fn read_beside<K: Disk>(first: &mut K, second: &mut K) -> Result<bool, DiskFault
     Ok(failed)
 }
 
-// A link in the file system, by a name of its own or by the other's, and one name for both.
+/// A link in the file system, by a name of its own or by the other's, and one name for both.
 #[test]
 fn two_disks_have_no_file_in_common(rt: HostRuntime) -> Result<(), Fail> {
     let (name, other) = ("one_of_two.disk", "other_of_two.disk");

@@ -12,33 +12,33 @@ use recovery::{RecoverFault, Standing, Store, recover};
 use std::alloc::Global;
 use std::test::Fail;
 
-// The bytes of a disk with banks of 4096 bytes.
+/// The bytes of a disk with banks of 4096 bytes.
 pub(super) const WHOLE: usize = 16_384;
 
-// An installation that is tried.
+/// An installation that is tried.
 pub(super) trait Installation {
-    // The disk that it begins on.
+    /// The disk that it begins on.
     fn before() -> [u8; WHOLE];
 
-    // What it answers on that disk.
+    /// What it answers on that disk.
     fn install(alloc: Global, disk: &mut MemDisk) -> Result<Result<(), StoreFault>, Fail>
         requires { (state_of disk.old).stopped ≡ false };
 
-    // Whether it is the configuration of that disk.
+    /// Whether it is the configuration of that disk.
     fn is_old(standing: &Standing) -> bool;
 
-    // Whether it is the one that is installed.
+    /// Whether it is the one that is installed.
     fn is_new(standing: &Standing) -> bool;
 }
 
-// Puts bytes at an offset, where they end within the disk.
+/// Puts bytes at an offset, where they end within the disk.
 pub(super) fn put(disk: &mut [u8], at: usize, bytes: &[u8]) {
     if at <= disk.len() && bytes.len() <= disk.len() - at {
         disk[at..at + bytes.len()].copy_from_slice(bytes);
     }
 }
 
-// What a file is to have: its name and its bytes.
+/// What a file is to have: its name and its bytes.
 pub(super) type Wanted<'a> = (&'a [u8], &'a [u8]);
 
 fn has_files(files: &[StoredFile], wanted: &[Wanted]) -> bool {
@@ -53,7 +53,7 @@ fn has_files(files: &[StoredFile], wanted: &[Wanted]) -> bool {
     true
 }
 
-// It has this type id, this part number and these files, of which the first is its header.
+/// It has this type id, this part number and these files, of which the first is its header.
 pub(super) fn is_load(load: &Load, type_id: Option<u16>, part: &[u8], files: &[Wanted]) -> bool {
     let Some((header, _)) = files.first() else {
         return false;
@@ -64,7 +64,7 @@ pub(super) fn is_load(load: &Load, type_id: Option<u16>, part: &[u8], files: &[W
         && has_files(load.files.as_slice(), files)
 }
 
-// It is that of the target of these tests, with this bank and this sequence number.
+/// It is that of the target of these tests, with this bank and this sequence number.
 pub(super) fn is_active(standing: &Standing, bank: u8, sequence: u32) -> bool {
     standing.identity.hw.as_slice() == b"HW1".as_slice()
         && standing.identity.pos.as_slice() == b"L".as_slice()
@@ -74,7 +74,7 @@ pub(super) fn is_active(standing: &Standing, bank: u8, sequence: u32) -> bool {
         && standing.sequence == sequence
 }
 
-// A file of these two pieces.
+/// A file of these two pieces.
 pub(super) fn put_file(
     store: &mut Store,
     disk: &mut MemDisk,
@@ -98,7 +98,7 @@ pub(super) fn put_file(
     Ok(())
 }
 
-// Whether it is the old configuration, and whether it is the new.
+/// Whether it is the old configuration, and whether it is the new.
 fn old_or_new<I: Installation>(
     alloc: Global,
     disk: &mut MemDisk,
@@ -111,8 +111,8 @@ fn old_or_new<I: Installation>(
     Ok(found)
 }
 
-// What the installation answers of which this call fails; a survey makes four calls before it. And
-// whether a restart leaves the old configuration then, and whether the new.
+/// What the installation answers of which this call fails; a survey makes four calls before it. And
+/// whether a restart leaves the old configuration then, and whether the new.
 type Left = (Result<(), StoreFault>, (bool, bool));
 
 pub(super) fn failing<I: Installation>(alloc: Global, call: u32) -> Result<Left, Fail> {
@@ -135,7 +135,7 @@ fn fail_and_restart<I: Installation>(
     Ok((answer, old_or_new::<I>(alloc, disk)?))
 }
 
-// How many of these calls come until the last sync has ended.
+/// How many of these calls come until the last sync has ended.
 fn until_sync(notes: &[Note]) -> usize {
     match notes
         .iter()
@@ -146,14 +146,14 @@ fn until_sync(notes: &[Note]) -> usize {
     }
 }
 
-// Makes the write that was noted.
+/// Makes the write that was noted.
 fn make(disk: &mut [u8], note: &Note) {
     if let Call::Write { at, bytes } = &note.call {
         put(disk, *at as usize, bytes.as_slice());
     }
 }
 
-// Puts other bytes than those of the write that was noted.
+/// Puts other bytes than those of the write that was noted.
 fn spoil(disk: &mut [u8], note: &Note) {
     let Call::Write { at, bytes } = &note.call else {
         return;
@@ -164,7 +164,7 @@ fn spoil(disk: &mut [u8], note: &Note) {
     }
 }
 
-// What a disk of these bytes holds after these calls.
+/// What a disk of these bytes holds after these calls.
 fn after(before: &[u8; WHOLE], notes: &[Note]) -> [u8; WHOLE] {
     let mut image = *before;
     for note in notes {
@@ -173,8 +173,8 @@ fn after(before: &[u8; WHOLE], notes: &[Note]) -> [u8; WHOLE] {
     image
 }
 
-// What it holds where of each of these writes, by the digits of `pick` to the base 3, nothing came,
-// its bytes, or others.
+/// What it holds where of each of these writes, by the digits of `pick` to the base 3, nothing
+/// came, its bytes, or others.
 fn left_by(before: &[u8; WHOLE], writes: &[Note], pick: u32) -> [u8; WHOLE] {
     let mut image = *before;
     let mut digits = pick;
@@ -189,7 +189,7 @@ fn left_by(before: &[u8; WHOLE], writes: &[Note], pick: u32) -> [u8; WHOLE] {
     image
 }
 
-// How many ways there are to let nothing, its bytes or others come of each of these writes.
+/// How many ways there are to let nothing, its bytes or others come of each of these writes.
 fn ways(writes: &[Note]) -> u32 {
     let mut ways = 1u32;
     for _ in writes {
@@ -198,9 +198,9 @@ fn ways(writes: &[Note]) -> u32 {
     ways
 }
 
-// Of a disk of these bytes after these calls: how many images a power loss may leave, where each
-// write since the last sync has left nothing, its bytes or others, and how many of these are
-// recovered as the new configuration. Each other one has to be recovered as the old.
+/// Of a disk of these bytes after these calls: how many images a power loss may leave, where each
+/// write since the last sync has left nothing, its bytes or others, and how many of these are
+/// recovered as the new configuration. Each other one has to be recovered as the old.
 fn images_after<I: Installation>(
     alloc: Global,
     before: &[u8; WHOLE],
@@ -223,7 +223,7 @@ fn images_after<I: Installation>(
     Ok((images, new))
 }
 
-// Whether a disk of these bytes holds the old configuration, and whether the new.
+/// Whether a disk of these bytes holds the old configuration, and whether the new.
 fn held_by<I: Installation>(alloc: Global, image: &[u8; WHOLE]) -> Result<(bool, bool), Fail> {
     let mut disk = MemDisk::new(alloc, image)?;
     let held = old_or_new::<I>(alloc, &mut disk);
@@ -231,8 +231,8 @@ fn held_by<I: Installation>(alloc: Global, image: &[u8; WHOLE]) -> Result<(bool,
     Ok(held?)
 }
 
-// How many images there are at each moment of an installation that shuts the other slot, makes seven
-// writes and a sync, and opens the slot; and how many of them are of the new configuration.
+/// How many images there are at each moment of an installation that shuts the other slot, makes
+/// seven writes and a sync, and opens the slot; and how many of them are of the new configuration.
 pub(super) const SEVEN_WRITES: [(u32, u32); 13] = [
     (1, 0),
     (3, 0),
@@ -249,8 +249,8 @@ pub(super) const SEVEN_WRITES: [(u32, u32); 13] = [
     (1, 1),
 ];
 
-// At how many moments of these calls there are as many images, and as many of the new configuration,
-// as are wanted; and how many images there are.
+/// At how many moments of these calls there are as many images, and as many of the new
+/// configuration, as are wanted; and how many images there are.
 fn agree<I: Installation>(
     alloc: Global,
     notes: &[Note],
@@ -268,9 +268,9 @@ fn agree<I: Installation>(
     Ok((moments, images))
 }
 
-// How many calls an installation makes that change the disk, and what `agree` says of them. At each
-// moment, told by the calls that have ended or begun: a moment inside a write has the images from
-// before it and those after it, and one inside a sync those from before it.
+/// How many calls an installation makes that change the disk, and what `agree` says of them. At
+/// each moment, told by the calls that have ended or begun: a moment inside a write has the images
+/// from before it and those after it, and one inside a sync those from before it.
 pub(super) fn moments<I: Installation>(
     alloc: Global,
     wanted: &[(u32, u32)],

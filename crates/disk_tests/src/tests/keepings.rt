@@ -1,7 +1,7 @@
 //! Installations that keep loads of the active configuration.
 ghost use Rattle.std.specs.Prelude.{◌≡◌, ◌≤◌, false, length, true};
 ghost use Rattle.disk_model.specs.MemDisk.{state_of};
-ghost use Rattle.bank_store.specs.Store.{IsIdle, IsKept};
+ghost use Rattle.bank_store.specs.Store.{IsIdle, IsKeptLoad};
 ghost use Rattle.recovery.specs.Surveys.{IsSurveyInRange};
 
 use crate::tests::images::{
@@ -15,7 +15,7 @@ use recovery::{Standing, Store, Surveyed, survey};
 use std::alloc::Global;
 use std::test::Fail;
 
-// A file of 508 bytes.
+/// A file of 508 bytes.
 fn body() -> [u8; 508] {
     let mut bytes = [b'.'; 508];
     put(&mut bytes, 0, b"first");
@@ -23,8 +23,8 @@ fn body() -> [u8; 508] {
     bytes
 }
 
-// A disk with three loads of types 7, 0xA002 and 9 in bank 1. Their files have 3 bytes, 5 and 508,
-// and none, and the manifest, which has layout 2, 103.
+/// A disk with three loads of types 7, 0xA002 and 9 in bank 1. Their files have 3 bytes, 5 and 508,
+/// and none, and the manifest, which has layout 2, 103.
 fn three_loads() -> [u8; WHOLE] {
     let mut disk = [0; WHOLE];
     put(
@@ -58,17 +58,17 @@ fn three_loads() -> [u8; WHOLE] {
     disk
 }
 
-// Whether a survey says a type id of the second load and of the third.
+/// Whether a survey says a type id of the second load and of the third.
 fn can_be_kept(surveyed: &Surveyed) -> bool
     ensures { result ≡ true → IsSurveyInRange surveyed.now
-        → IsKept surveyed.now.store 2 × IsKept surveyed.now.store 3 }
+        → IsKeptLoad surveyed.now.store 2 × IsKeptLoad surveyed.now.store 3 }
 {
     has_type(&surveyed.manifest, 1) && has_type(&surveyed.manifest, 2)
 }
 
-// An installation of one load that keeps the second load and the third. What it writes before the
-// gate is two pieces of the new load, two of the second load, and the manifest and the slot in three
-// writes; of the third load it writes none.
+/// An installation of one load that keeps the second load and the third. What it writes before the
+/// gate is two pieces of the new load, two of the second load, and the manifest and the slot in
+/// three writes; of the third load it writes none.
 struct KeepsTwo;
 
 impl Installation for KeepsTwo {
@@ -126,7 +126,7 @@ fn is_third(load: &Load) -> bool {
     is_load(load, Some(9), b"ABC43-0000-0003", &[(b"C.LUH", b"")])
 }
 
-// Installs one load of two files, and keeps the second load and the third.
+/// Installs one load of two files, and keeps the second load and the third.
 fn install_keeping(
     store: &mut Store,
     disk: &mut MemDisk,
@@ -135,8 +135,8 @@ fn install_keeping(
 ) -> Result<(), StoreFault>
     requires idle { IsIdle store.old }
     requires running { (state_of disk.old).stopped ≡ false }
-    requires second { IsKept store.old 2 }
-    requires third { IsKept store.old 3 }
+    requires second { IsKeptLoad store.old 2 }
+    requires third { IsKeptLoad store.old 3 }
 {
     store.prepare()?;
     store.begin(disk)?;
@@ -149,8 +149,8 @@ fn install_keeping(
     store.activate(disk)
 }
 
-// Shutting the other slot makes two calls; the contents, of which each piece that is kept is read
-// first, the manifest, the slot and their sync ten; opening the other slot two.
+/// Shutting the other slot makes two calls; the contents, of which each piece that is kept is read
+/// first, the manifest, the slot and their sync ten; opening the other slot two.
 #[test]
 fn one_that_keeps_loads_and_fails_leaves_the_old_configuration(
     rt: HostRuntime,
@@ -172,8 +172,8 @@ fn each_image_of_one_that_keeps_loads_is_old_or_new(rt: HostRuntime) -> Result<(
 
 const ZEROS: [u8; 4096] = [0; 4096];
 
-// What the store answers that is to keep the second load, of 513 bytes, after so many bytes of a
-// new one, and how many writes it makes then.
+/// What the store answers that is to keep the second load, of 513 bytes, after so many bytes of a
+/// new one, and how many writes it makes then.
 type Kept = (Result<(), StoreFault>, usize);
 
 fn kept_after(alloc: Global, bytes: usize) -> Result<Kept, Fail>
@@ -212,7 +212,7 @@ fn keep_after(
 ) -> Result<Kept, StoreFault>
     requires idle { IsIdle store.old }
     requires running { (state_of disk.old).stopped ≡ false }
-    requires second { IsKept store.old 2 }
+    requires second { IsKeptLoad store.old 2 }
     requires short { length bytes.now ≤ 4096 }
 {
     store.prepare()?;
@@ -224,7 +224,7 @@ fn keep_after(
     Ok((answer, disk.notes().len().saturating_sub(before)))
 }
 
-// Where the bank is full, nothing is written.
+/// Where the bank is full, nothing is written.
 #[test]
 fn a_load_that_passes_the_bank_is_not_kept(rt: HostRuntime) -> Result<(), Fail> {
     for (bytes, need) in [(0, 0), (3583, 0), (3584, 4097), (4096, 4609)] {

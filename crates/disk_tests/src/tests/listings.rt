@@ -33,7 +33,7 @@ fn identity() -> Result<Identity, Fail> {
     })
 }
 
-// The listing of a configuration with that load.
+/// The listing of a configuration with that load.
 fn listed(alloc: Global) -> Result<Bytes, Fail> {
     let identity = identity()?;
     let mut loads = List::new(alloc);

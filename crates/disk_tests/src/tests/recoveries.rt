@@ -13,9 +13,9 @@ use std::alloc::Global;
 use std::fs;
 use std::test::Fail;
 
-// A disk for target HW1, position L, serial number SN1 with banks of 4096 bytes, of which bank 0
-// has one load of one file of three bytes, and bank 1 none, both in manifests of layout 1. Slot A
-// names bank 0 with sequence 7, slot B bank 1 with sequence 8.
+/// A disk for target HW1, position L, serial number SN1 with banks of 4096 bytes, of which bank 0
+/// has one load of one file of three bytes, and bank 1 none, both in manifests of layout 1. Slot A
+/// names bank 0 with sequence 7, slot B bank 1 with sequence 8.
 fn two_slots() -> [u8; 12_290] {
     let mut disk = [0; 12_290];
     put(
@@ -35,7 +35,7 @@ fn two_slots() -> [u8; 12_290] {
     disk
 }
 
-// Where the first and the last write of these calls begin.
+/// Where the first and the last write of these calls begin.
 fn first_and_last(notes: &[Note]) -> (u32, u32) {
     let mut offsets = (0, 0);
     for note in notes {
@@ -49,9 +49,9 @@ fn first_and_last(notes: &[Note]) -> (u32, u32) {
     offsets
 }
 
-// What a survey of these bytes tells: how many loads, the active bank and its sequence number; how
-// many calls changed the disk; and where the first and the last write of an installation without
-// loads begin then.
+/// What a survey of these bytes tells: how many loads, the active bank and its sequence number; how
+/// many calls changed the disk; and where the first and the last write of an installation without
+/// loads begin then.
 type Told = (usize, u8, u32, usize, (u32, u32));
 
 fn surveyed(alloc: Global, bytes: &[u8; 12_290]) -> Result<Told, Fail> {
@@ -73,7 +73,7 @@ fn tell(alloc: Global, disk: &mut MemDisk) -> Result<Told, Fail>
     Ok((loads, bank, sequence, calls, first_and_last(disk.notes())))
 }
 
-// Installs a configuration without loads.
+/// Installs a configuration without loads.
 fn install_none(store: &mut Store, disk: &mut MemDisk) -> Result<(), StoreFault>
     requires idle { IsIdle store.old }
     requires running { (state_of disk.old).stopped ≡ false }
@@ -84,8 +84,8 @@ fn install_none(store: &mut Store, disk: &mut MemDisk) -> Result<(), StoreFault>
     store.activate(disk)
 }
 
-// An installation shuts the other slot first where it is open, and else begins with the other bank;
-// its last write opens the other slot.
+/// An installation shuts the other slot first where it is open, and else begins with the other
+/// bank; its last write opens the other slot.
 #[test]
 fn a_survey_tells_what_is_active(rt: HostRuntime) -> Result<(), Fail> {
     for (gate_a, gate_b, sequence_b, wanted) in [
@@ -106,7 +106,7 @@ fn a_survey_tells_what_is_active(rt: HostRuntime) -> Result<(), Fail> {
     Ok(())
 }
 
-// Whether the load of bank 0 is recovered.
+/// Whether the load of bank 0 is recovered.
 fn is_recovered(alloc: Global, disk: &mut MemDisk) -> Result<bool, RecoverFault>
     requires { (state_of disk.old).stopped ≡ false }
 {
@@ -130,12 +130,12 @@ fn the_contents_come_with_a_recovery(rt: HostRuntime) -> Result<(), Fail> {
     Ok(())
 }
 
-// Why a survey of a disk in a file is refused, if it is.
+/// Why a survey of a disk in a file is refused, if it is.
 fn survey_refusal(rt: &HostRuntime, alloc: Global, name: &str) -> Option<RecoverFault> {
     survey(alloc, &mut FileDisk::new(rt, &OpenedFiles::new(), name)).err()
 }
 
-// Why its recovery is refused, if it is.
+/// Why its recovery is refused, if it is.
 fn recover_refusal(rt: &HostRuntime, alloc: Global, name: &str) -> Option<RecoverFault> {
     recover(alloc, &mut FileDisk::new(rt, &OpenedFiles::new(), name)).err()
 }
@@ -151,7 +151,7 @@ fn a_missing_file_is_not_formatted(rt: HostRuntime) -> Result<(), Fail> {
     Ok(())
 }
 
-// An installation of two loads beside one whose manifest has layout 1.
+/// An installation of two loads beside one whose manifest has layout 1.
 struct TwoLoads;
 
 impl Installation for TwoLoads {
@@ -200,7 +200,7 @@ impl Installation for TwoLoads {
     }
 }
 
-// Installs the new configuration, whose texts are these, in its order.
+/// Installs the new configuration, whose texts are these, in its order.
 fn install_new(
     store: &mut Store,
     disk: &mut MemDisk,
@@ -240,8 +240,8 @@ fn new_names() -> Result<[Name; 5], Fail> {
     ])
 }
 
-// Shutting the other slot makes two calls; the contents, the manifest, the slot and their sync
-// eight; opening the other slot two, a write and a sync.
+/// Shutting the other slot makes two calls; the contents, the manifest, the slot and their sync
+/// eight; opening the other slot two, a write and a sync.
 #[test]
 fn an_installation_that_fails_leaves_the_old_configuration(rt: HostRuntime) -> Result<(), Fail> {
     for call in 1..=12u32 {

@@ -11,9 +11,9 @@ use recovery::{Standing, recover};
 use std::alloc::Global;
 use std::test::Fail;
 
-// A disk for target HW1, position L, serial number SN1 with banks of 4096 bytes. Slot B names bank 1
-// with sequence 8, which has no loads; slot A bank 0 with sequence 7, which has one load of one file
-// of three bytes.
+/// A disk for target HW1, position L, serial number SN1 with banks of 4096 bytes. Slot B names bank
+/// 1 with sequence 8, which has no loads; slot A bank 0 with sequence 7, which has one load of one
+/// file of three bytes.
 fn two_slots() -> [u8; WHOLE] {
     let mut disk = [0; WHOLE];
     put(
@@ -34,12 +34,12 @@ fn two_slots() -> [u8; WHOLE] {
     disk
 }
 
-// It has no loads, in bank 1, with this sequence number.
+/// It has no loads, in bank 1, with this sequence number.
 fn is_empty(standing: &Standing, sequence: u32) -> bool {
     is_active(standing, 1, sequence) && standing.config.loads.len() == 0
 }
 
-// It has the one load, in bank 0, with this sequence number.
+/// It has the one load, in bank 0, with this sequence number.
 fn is_loaded(standing: &Standing, sequence: u32) -> bool {
     let [load] = standing.config.loads.as_slice() else {
         return false;
@@ -48,8 +48,8 @@ fn is_loaded(standing: &Standing, sequence: u32) -> bool {
         && is_load(load, Some(7), b"ABC41-0000-0001", &[(b"A.B", b"abc")])
 }
 
-// What a rollback answers, and whether it gives the configuration without loads or with one, with
-// these sequence numbers.
+/// What a rollback answers, and whether it gives the configuration without loads or with one, with
+/// these sequence numbers.
 type Given = (Result<(), RollbackFault>, (bool, bool));
 
 fn roll_back(alloc: Global, disk: &mut MemDisk, empty: u32, loaded: u32) -> Given
@@ -89,7 +89,7 @@ impl Installation for RollingBack {
     }
 }
 
-// The gate of slot A is shut, its body written, and the gate opened, each with a sync.
+/// The gate of slot A is shut, its body written, and the gate opened, each with a sync.
 #[test]
 fn each_image_of_a_rollback_is_active_or_former(rt: HostRuntime) -> Result<(), Fail> {
     let wanted = [(1, 0), (3, 0), (1, 0), (3, 0), (1, 0), (3, 1), (1, 1)];
@@ -97,7 +97,7 @@ fn each_image_of_a_rollback_is_active_or_former(rt: HostRuntime) -> Result<(), F
     Ok(())
 }
 
-// What two rollbacks give, the second on the disk that the first leaves.
+/// What two rollbacks give, the second on the disk that the first leaves.
 fn there_and_back(alloc: Global) -> Result<(Given, Given), Fail> {
     let mut disk = MemDisk::new(alloc, &two_slots())?;
     let found = roll_twice(alloc, &mut disk);
@@ -123,8 +123,8 @@ fn a_second_rollback_brings_back_what_was_active(rt: HostRuntime) -> Result<(), 
     Ok(())
 }
 
-// Whether a rollback of that disk with these bytes in it is refused with this text, and makes no call
-// that changes the disk.
+/// Whether a rollback of that disk with these bytes in it is refused with this text, and makes no
+/// call that changes the disk.
 fn is_refused(alloc: Global, at: usize, bytes: &[u8], text: &[u8]) -> Result<bool, Fail> {
     let mut image = two_slots();
     put(&mut image, at, bytes);
@@ -138,7 +138,7 @@ fn is_refused(alloc: Global, at: usize, bytes: &[u8], text: &[u8]) -> Result<boo
     }
 }
 
-// At which offset which bytes are put, and the refusal.
+/// At which offset which bytes are put, and the refusal.
 const REFUSALS: [(usize, &[u8], &[u8]); 13] = [
     (4096, &[0], b"G1"),
     (4112, &[0, 0, 0, 8], b"G2 4624"),
@@ -163,8 +163,8 @@ fn a_rollback_is_refused_with_its_offset(rt: HostRuntime) -> Result<(), Fail> {
     Ok(())
 }
 
-// What a rollback answers whose n-th call of the disk fails, and whether a restart leaves the
-// configuration that was active then, and whether the former one.
+/// What a rollback answers whose n-th call of the disk fails, and whether a restart leaves the
+/// configuration that was active then, and whether the former one.
 type Left = (Result<(), RollbackFault>, (bool, bool));
 
 fn failing_at(alloc: Global, call: u32) -> Result<Left, Fail> {
@@ -186,8 +186,8 @@ fn fail_and_restart(alloc: Global, disk: &mut MemDisk, call: u32) -> Result<Left
     Ok((answer, found))
 }
 
-// Eleven reads find both configurations, two calls shut the gate, four name the manifest, two open
-// the gate, and five read what is active then.
+/// Eleven reads find both configurations, two calls shut the gate, four name the manifest, two open
+/// the gate, and five read what is active then.
 #[test]
 fn a_rollback_that_fails_leaves_active_or_former(rt: HostRuntime) -> Result<(), Fail> {
     for call in 1..=24u32 {

@@ -11,8 +11,8 @@ use std::alloc::Global;
 use std::fs;
 use std::test::Fail;
 
-// The first bytes of the disk that target HW1, position L, serial number SN1 has with banks of 4096
-// bytes.
+/// The first bytes of the disk that target HW1, position L, serial number SN1 has with banks of
+/// 4096 bytes.
 const START: [u8; 22] = [
     0x41, 0x36, 0x31, 0x35, 0, 1, 0, 0, 0x10, 0, 3, 0x48, 0x57, 0x31, 1, 0x4C, 3, 0x53, 0x4E, 0x31,
     0xB4, 0x3C,
@@ -29,7 +29,7 @@ fn target(bank: u32) -> Result<Identity, Fail>
     })
 }
 
-// What a call writes and where; a sync writes nothing.
+/// What a call writes and where; a sync writes nothing.
 fn written(note: &Note) -> (u32, &[u8]) {
     match &note.call {
         Call::Write { at, bytes } => (*at, bytes.as_slice()),
@@ -37,7 +37,7 @@ fn written(note: &Note) -> (u32, &[u8]) {
     }
 }
 
-// A disk of these bytes after these writes.
+/// A disk of these bytes after these writes.
 fn after(before: &[u8; 9000], writes: &[(u32, &[u8])]) -> [u8; 9000] {
     let mut disk = *before;
     for (at, bytes) in writes {
@@ -62,7 +62,7 @@ const STEPS: [(u32, &[u8]); 10] = [
     (0, &[]),
 ];
 
-// Whether a disk of these bytes is formatted in four steps.
+/// Whether a disk of these bytes is formatted in four steps.
 fn is_formatted(disk: &mut MemDisk, junk: &[u8; 9000]) -> Result<bool, Fail>
     requires { (state_of disk.old).stopped ≡ false }
 {
@@ -87,8 +87,8 @@ fn a_disk_with_both_gates_open_is_formatted_in_four_steps(rt: HostRuntime) -> Re
     Ok(())
 }
 
-// What formatting an empty disk answers where this call fails, and how many writes and syncs were
-// noted, that call among them.
+/// What formatting an empty disk answers where this call fails, and how many writes and syncs were
+/// noted, that call among them.
 fn format_failing(alloc: Global, call: u32) -> Result<(Result<(), StoreFault>, usize), Fail> {
     let mut disk = MemDisk::new(alloc, &[])?;
     let found = fail_in_format(&mut disk, call);
@@ -105,7 +105,7 @@ fn fail_in_format(disk: &mut MemDisk, call: u32) -> Result<(Result<(), StoreFaul
     Ok((answer, disk.notes().len()))
 }
 
-// It reads both slots, and finds no gate open.
+/// It reads both slots, and finds no gate open.
 #[test]
 fn each_failing_call_stops_formatting(rt: HostRuntime) -> Result<(), Fail> {
     for call in 1..=9u32 {
@@ -120,13 +120,13 @@ fn each_failing_call_stops_formatting(rt: HostRuntime) -> Result<(), Fail> {
     Ok(())
 }
 
-// What formatting a disk in a file answers.
+/// What formatting a disk in a file answers.
 fn format_file(rt: &HostRuntime, name: &str) -> Result<Result<(), StoreFault>, Fail> {
     let identity = target(4096)?;
     Ok(format(&mut FileDisk::new(rt, &OpenedFiles::new(), name), &identity))
 }
 
-// How many bytes a formatted file has, whether it begins as it should, and its first gate.
+/// How many bytes a formatted file has, whether it begins as it should, and its first gate.
 fn file_of(rt: &HostRuntime, name: &str) -> Result<(usize, bool, Option<u8>), Fail> {
     let file = fs::read(rt, name)?;
     let gate = file.as_slice().get(4096).copied();
@@ -143,7 +143,7 @@ fn a_file_is_formatted(rt: HostRuntime) -> Result<(), Fail> {
     Ok(())
 }
 
-// Installs a load of type 7 and of one file.
+/// Installs a load of type 7 and of one file.
 fn install_one(
     store: &mut Store,
     disk: &mut MemDisk,
@@ -163,8 +163,8 @@ fn install_one(
     store.activate(disk)
 }
 
-// Formats a disk for the target and installs one load on it: the store's sequence number and bank
-// then.
+/// Formats a disk for the target and installs one load on it: the store's sequence number and bank
+/// then.
 fn install(alloc: Global, disk: &mut MemDisk) -> Result<(u32, u8), Fail>
     requires { (state_of disk.old).stopped ≡ false }
 {
@@ -199,8 +199,8 @@ const HELD: [(usize, &[u8]); 5] = [
     ),
 ];
 
-// Whether the disk has what is installed beside what was active, and the store that sequence number
-// and bank.
+/// Whether the disk has what is installed beside what was active, and the store that sequence
+/// number and bank.
 fn is_installed(alloc: Global, disk: &mut MemDisk) -> Result<bool, Fail>
     requires { (state_of disk.old).stopped ≡ false }
 {

@@ -8,8 +8,8 @@ use link_net::Waits;
 use load_base::{Bytes, NoMemory};
 use std::alloc::Global;
 
-// What a link of two units is asked, a letter each: `l` and `t`, the loader or the target posts a
-// datagram at unit 1, and `m` and `u` at unit 2; any other letter, what happens next.
+/// What a link of two units is asked, a letter each: `l` and `t`, the loader or the target posts a
+/// datagram at unit 1, and `m` and `u` at unit 2; any other letter, what happens next.
 fn asked(alloc: Global, link: &mut FleetLink, asked: &[u8]) -> Result<Bytes, NoMemory>
     requires { link.old.units ≡ 2 }
 {
@@ -26,8 +26,8 @@ fn asked(alloc: Global, link: &mut FleetLink, asked: &[u8]) -> Result<Bytes, NoM
     Ok(given)
 }
 
-// `A` and `B`: the loader or the target of unit 1 waits, `C` and `D`: that of unit 2, `E`: all do; `P`
-// and `Q`: none does, or all do, and an upload may be asked.
+/// `A` and `B`: the loader or the target of unit 1 waits, `C` and `D`: that of unit 2, `E`: all do;
+/// `P` and `Q`: none does, or all do, and an upload may be asked.
 fn next(link: &mut FleetLink, letter: u8) -> Result<[u8; 3], NoMemory>
     requires { link.old.units ≡ 2 }
     ensures { link.new.units ≡ 2 }
@@ -58,10 +58,10 @@ fn datagram(alloc: Global, from_side: Side) -> Datagram {
     }
 }
 
-// A happening as three characters: the unit's number, and then `l` or `t` and the unit's own number
-// of the datagram that goes there, `x` and that of one that is lost, `tl` and `tt` for ticks, `si`
-// for a session that starts, `bt` for a boot, and `--` for what else happens; or `bat` for a batch and
-// `ask` for an upload that is asked.
+/// A happening as three characters: the unit's number, and then `l` or `t` and the unit's own
+/// number of the datagram that goes there, `x` and that of one that is lost, `tl` and `tt` for
+/// ticks, `si` for a session that starts, `bt` for a boot, and `--` for what else happens; or `bat`
+/// for a batch and `ask` for an upload that is asked.
 fn shown(happening: &FleetHappening) -> [u8; 3] {
     match happening {
         FleetHappening::At { unit, happening } => {

@@ -5,7 +5,7 @@ use load_base::{Bytes, NoMemory};
 use printed_text::Printed;
 use std::alloc::Global;
 
-// For how many units a text was read and how many lines say something, or why it is no script.
+/// For how many units a text was read and how many lines say something, or why it is no script.
 fn read(alloc: Global, text: &[u8], units: u8) -> Result<(u8, usize), ScriptFault> {
     let script = FleetScript::read(alloc, text, units)?;
     let found = (script.unit_count(), script.line_count());
@@ -35,7 +35,7 @@ fn fleet_scripts_are_read(rt: HostRuntime) {
     }
 }
 
-// What a text is refused for, as it is printed; of two units.
+/// What a text is refused for, as it is printed; of two units.
 fn is_refused(alloc: Global, text: &[u8], printed: &[u8]) -> bool {
     let Err(fault) = read(alloc, text, 2) else {
         return false;
@@ -92,7 +92,7 @@ fn the_first_fault_is_told(rt: HostRuntime) {
     }
 }
 
-// A line of this many bytes that is passed over.
+/// A line of this many bytes that is passed over.
 fn comment(alloc: Global, length: usize) -> Result<Bytes, NoMemory> {
     let mut text = Bytes::new(alloc);
     for _ in 0..length {
@@ -116,7 +116,7 @@ fn a_fleet_script_has_a_million_bytes_at_most(rt: HostRuntime) {
     }
 }
 
-// A line with this many copies of a piece at its end.
+/// A line with this many copies of a piece at its end.
 fn line_of(alloc: Global, start: &[u8], piece: &[u8], count: usize) -> Result<Bytes, NoMemory> {
     let mut text = Bytes::new(alloc);
     text.extend(start)?;

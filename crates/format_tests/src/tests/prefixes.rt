@@ -5,8 +5,8 @@ use shown_files::{Shown, ShownKind, show};
 use std::alloc::{AllocError, Global};
 use worked_files::{APP_FILES, APP_HEADER, APP_LOADS};
 
-// The kind of each file, its bytes, the letter of its faults, and the length that its first four
-// bytes say.
+/// The kind of each file, its bytes, the letter of its faults, and the length that its first four
+/// bytes say.
 const FILES: [(ShownKind, &[u8], char, u32); 6] = [
     (ShownKind::Header, &APP_HEADER, 'H', 61),
     (ShownKind::LoadsList, &APP_LOADS, 'L', 43),
@@ -16,7 +16,7 @@ const FILES: [(ShownKind, &[u8], char, u32); 6] = [
     (ShownKind::Lus, &LAST_LUS, 'U', 50),
 ];
 
-// The text of the fault of a prefix of so many bytes.
+/// The text of the fault of a prefix of so many bytes.
 fn fault_of(alloc: Global, letter: char, said: u32, size: usize) -> Result<String, AllocError> {
     if size < 4 {
         format!(in alloc; "{letter}1 0")
@@ -32,7 +32,7 @@ fn is_fault(shown: &Shown, text: &[u8]) -> bool {
     }
 }
 
-// Whether these bytes are refused with this fault.
+/// Whether these bytes are refused with this fault.
 fn is_refused(
     alloc: Global,
     kind: ShownKind,
@@ -45,7 +45,7 @@ fn is_refused(
     Ok(same)
 }
 
-// The first N bytes.
+/// The first N bytes.
 fn prefix(bytes: &[u8], size: usize) -> &[u8] {
     if size <= bytes.len() {
         &bytes[..size]
@@ -54,7 +54,7 @@ fn prefix(bytes: &[u8], size: usize) -> &[u8] {
     }
 }
 
-// The size of the first proper prefix that isn't refused so, or that of the whole.
+/// The size of the first proper prefix that isn't refused so, or that of the whole.
 fn first_other(
     alloc: Global,
     kind: ShownKind,

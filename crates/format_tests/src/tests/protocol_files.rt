@@ -20,7 +20,7 @@ pub(crate) const LAST_LUS: [u8; 50] =
 const LCL: [u8; 47] =
     *b"\x00\x00\x00\x2f\x41\x33\x00\x01\x03HW1\x03SN1\x00\x01\x0fABC41-0000-0001\x00\x0bAPP.LUH-123";
 
-// What is read is written again; what the fields of each are stands in the tests of what is shown.
+/// What is read is written again; what the fields of each are stands in the tests of what is shown.
 #[test]
 fn files_are_written_as_they_were_read(rt: HostRuntime) -> Result<(), FileFault> {
     let alloc = rt.alloc();
@@ -71,7 +71,7 @@ fn lus_again(alloc: Global, bytes: &[u8]) -> Result<Bytes, FileFault> {
     Ok(again?)
 }
 
-// The list written again, or no bytes where it doesn't fit.
+/// The list written again, or no bytes where it doesn't fit.
 fn lcl_again(alloc: Global, bytes: &[u8]) -> Result<Bytes, FileFault> {
     let file = Lcl::decode(alloc, bytes)?;
     let again = lcl_written(alloc, &file);
@@ -86,7 +86,7 @@ fn lcl_written(alloc: Global, file: &Lcl) -> Result<Bytes, NoMemory> {
     file.encode(alloc)
 }
 
-// The text of a refusal, and else no bytes.
+/// The text of a refusal, and else no bytes.
 fn told<T: Drop>(alloc: Global, read: Result<T, FileFault>) -> Result<Text, NoMemory> {
     match read.err() {
         Some(fault) => fault.text(alloc),

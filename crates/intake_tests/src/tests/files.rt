@@ -35,7 +35,7 @@ fn empty_list(alloc: Global) -> Result<Bytes, Fail> {
     Ok(lcl_file(alloc, &identity, &[])?)
 }
 
-// The files of a target with no loads, and of an upload of one load to it.
+/// The files of a target with no loads, and of an upload of one load to it.
 fn written(alloc: Global, row: usize) -> Result<Bytes, Fail> {
     let request = [wanted()?];
     Ok(match row {

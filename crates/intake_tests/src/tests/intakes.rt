@@ -31,8 +31,8 @@ static ALONE: [u8; 90] = [
     0x00, 0x00, 0x00, 0x00, 0xB1, 0x5B, 0xF2, 0xA8, 0xCE, 0x7E,
 ];
 
-/// The header of the load with one file, with this number of its type, this length of its file, and these
-/// check sums of the header and of the load.
+/// The header of the load with one file, with this number of its type, this length of its file, and
+/// these check sums of the header and of the load.
 fn app(kind: u16, length: u16, sum: u16, load_sum: u32) -> [u8; 122] {
     let mut header = APP_HEADER;
     let (words, bytes) = (u32::from(length.div_ceil(2)), u64::from(length));

@@ -7,7 +7,7 @@ use std::alloc::Global;
 use std::test::Fail;
 use worked_files::{ACK_0, ACK_1, ASKS_LCI, ASKS_LCL, ASKS_LCS, LCI, LCL, LCS};
 
-// A set without lists.
+/// A set without lists.
 fn no_media(alloc: Global) -> Result<MediaSet, Fail> {
     let mut host = MemHost::new(alloc);
     let opened = open_set(alloc, &mut host, b"P");
@@ -28,7 +28,7 @@ fn ident(bytes: &[u8]) -> Result<Ident, Fail> {
     }
 }
 
-// What is posted: from one port to another, these bytes.
+/// What is posted: from one port to another, these bytes.
 type Post<'a> = (u16, u16, &'a [u8]);
 
 const NONE: Post<'static> = (0, 0, b"");
@@ -43,7 +43,7 @@ fn is_post(post: &Option<Datagram>, expected: Post<'_>) -> bool {
     }
 }
 
-// How many of these datagrams, one after the other, are answered so.
+/// How many of these datagrams, one after the other, are answered so.
 fn answered(loader: &mut Loader<'_>, rows: &[(u16, u16, &[u8], Post<'_>)]) -> usize {
     for (i, (from, to, bytes, post)) in rows.iter().enumerate() {
         if !is_answered(loader.on_datagram(*from, *to, bytes), *post) {
@@ -67,7 +67,7 @@ fn is_answered(posts: Result<Posts, NoMemory>, post: Post<'_>) -> bool {
     }
 }
 
-// A letter for what a session came to.
+/// A letter for what a session came to.
 fn letter(session: &Session) -> u8 {
     match (&session.outcome, &session.listed) {
         (Outcome::Completed, Some(_)) => b'c',
@@ -100,7 +100,7 @@ const ROWS: [(u16, u16, &[u8], Post<'static>); 7] = [
     (1026, 1026, LCL, (1026, 1026, ACK_1)),
 ];
 
-// An information session, and what it came to.
+/// An information session, and what it came to.
 fn spoken(alloc: Global, media: &MediaSet, hw: Ident, pos: Ident) -> (bool, usize, [u8; 4]) {
     let mut loader = Loader::new(alloc, media);
     let asks = is_answered(loader.start_info(hw, pos), (1024, 59, ASKS_LCI));
@@ -120,7 +120,7 @@ fn an_information_session_goes_by_its_rows(rt: HostRuntime) -> Result<(), Fail> 
     Ok(())
 }
 
-// How many of six ticks repeat the request.
+/// How many of six ticks repeat the request.
 fn repeated(loader: &mut Loader<'_>) -> usize {
     let mut repeats = 0usize;
     for _ in 0..6 {
@@ -131,7 +131,7 @@ fn repeated(loader: &mut Loader<'_>) -> usize {
     repeats
 }
 
-// Two uploads that can't begin, and two information sessions, of which the second is given up.
+/// Two uploads that can't begin, and two information sessions, of which the second is given up.
 fn given_up(
     alloc: Global,
     media: &MediaSet,

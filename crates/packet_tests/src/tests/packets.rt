@@ -12,7 +12,7 @@ const NONE: Options = Options {
     tsize: None,
 };
 
-// What is asked for: a block size, a timeout and a length.
+/// What is asked for: a block size, a timeout and a length.
 type Asked = (Option<u16>, Option<u8>, Option<u32>);
 
 const NOTHING: Asked = (None, None, None);
@@ -25,7 +25,7 @@ fn options((blksize, timeout, tsize): Asked) -> Options {
     }
 }
 
-// The letter of a packet; its file, payload or text; its block or code; and its options.
+/// The letter of a packet; its file, payload or text; its block or code; and its options.
 type Parts<'a> = (u8, &'a [u8], u16, Options);
 
 fn parts<'a>(packet: &'a Packet<'_>) -> Parts<'a> {
@@ -39,8 +39,8 @@ fn parts<'a>(packet: &'a Packet<'_>) -> Parts<'a> {
     }
 }
 
-// Whether the bytes are a packet of these parts, and how many bytes it is written in, where these
-// are the same.
+/// Whether the bytes are a packet of these parts, and how many bytes it is written in, where these
+/// are the same.
 fn there_and_back(alloc: Global, bytes: &[u8], wanted: Parts<'_>) -> Result<(bool, usize), Fail> {
     let Ok(packet) = Packet::decode(bytes) else {
         return Ok((false, 0));
@@ -50,7 +50,7 @@ fn there_and_back(alloc: Global, bytes: &[u8], wanted: Parts<'_>) -> Result<(boo
     Ok((parts(&packet) == wanted, if same { bytes.len() } else { 0 }))
 }
 
-// Packets in their one spelling that is sent.
+/// Packets in their one spelling that is sent.
 const SENT: [(&[u8], (u8, &[u8], u16), Asked); 11] = [
     (
         b"\0\x01HW1_L.LCI\0octet\0",
@@ -130,7 +130,7 @@ fn a_request_is_written_as_it_is_sent(rt: HostRuntime) -> Result<(), Fail> {
     Ok(())
 }
 
-// The packet of these bytes has these parts.
+/// The packet of these bytes has these parts.
 fn is_read(bytes: &[u8], wanted: Parts<'_>) -> bool {
     match Packet::decode(bytes) {
         Ok(packet) => parts(&packet) == wanted,
@@ -138,8 +138,8 @@ fn is_read(bytes: &[u8], wanted: Parts<'_>) -> bool {
     }
 }
 
-// Other spellings of requests for a file A and of answers, and what they ask for: letter case,
-// leading zeros, and options that are passed over.
+/// Other spellings of requests for a file A and of answers, and what they ask for: letter case,
+/// leading zeros, and options that are passed over.
 const OTHERS: [(&[u8], u8, Asked); 10] = [
     (b"\0\x02A\0oCTeT\0", b'w', NOTHING),
     (
@@ -205,7 +205,7 @@ fn a_payload_has_at_most_65_464_bytes(rt: HostRuntime) -> Result<(), Fail> {
     Ok(())
 }
 
-// Bytes that are no packet, and their first fault.
+/// Bytes that are no packet, and their first fault.
 const FAULTS: [(&[u8], PacketFault); 46] = [
     (b"", PacketFault::Short(0)),
     (b"\0", PacketFault::Short(1)),

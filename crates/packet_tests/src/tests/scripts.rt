@@ -5,7 +5,7 @@ use link_net::{
 use load_base::{Bytes, NoMemory};
 use std::alloc::Global;
 
-// How many lines say something, or why the text is no script.
+/// How many lines say something, or why the text is no script.
 fn lines_in(alloc: Global, text: &[u8]) -> Result<usize, ScriptFault> {
     let script = Script::read(alloc, text)?;
     let count = script.line_count();
@@ -104,7 +104,7 @@ fn the_first_fault_is_told(rt: HostRuntime) {
     }
 }
 
-// A line of this many bytes that is passed over.
+/// A line of this many bytes that is passed over.
 fn comment(alloc: Global, length: usize) -> Result<Bytes, NoMemory> {
     let mut text = Bytes::new(alloc);
     for _ in 0..length {
@@ -127,7 +127,7 @@ fn a_script_has_a_million_bytes_at_most(rt: HostRuntime) {
     }
 }
 
-// A line with this many copies of a piece at its end.
+/// A line with this many copies of a piece at its end.
 fn line_of(alloc: Global, start: &[u8], piece: &[u8], count: usize) -> Result<Bytes, NoMemory> {
     let mut text = Bytes::new(alloc);
     text.extend(start)?;
@@ -165,7 +165,7 @@ fn a_datagram_has_65468_bytes_at_most(rt: HostRuntime) {
     }
 }
 
-// What a script gives first.
+/// What a script gives first.
 fn first_of(alloc: Global, script: &[u8]) -> Option<Happening> {
     let script = Script::read(alloc, script).ok()?;
     let mut link = ScriptLink::new(alloc, script);
@@ -215,7 +215,7 @@ fn datagrams_are_injected(rt: HostRuntime) {
     }
 }
 
-// What is told of an upload: its hardware, its position and its parts, with a space between two.
+/// What is told of an upload: its hardware, its position and its parts, with a space between two.
 fn uploaded(alloc: Global, script: &[u8]) -> Result<Bytes, NoMemory> {
     let mut told = Bytes::new(alloc);
     let first = first_of(alloc, script);
@@ -308,8 +308,8 @@ fn power_is_lost(rt: HostRuntime) {
     }
 }
 
-// What a link is asked, a letter each: `l` and `t`, the loader or the target posts a datagram; `n`,
-// `L`, `T` and `B`, what happens next, where no side waits, the loader, the target or both.
+/// What a link is asked, a letter each: `l` and `t`, the loader or the target posts a datagram;
+/// `n`, `L`, `T` and `B`, what happens next, where no side waits, the loader, the target or both.
 fn asked<L: Link>(alloc: Global, link: &mut L, asked: &[u8]) -> Result<Bytes, LinkFault> {
     let mut given = Bytes::new(alloc);
     for letter in asked {
@@ -344,9 +344,9 @@ fn datagram(alloc: Global, from_side: Side) -> Datagram {
     }
 }
 
-// A happening as two characters: `l` or `t` and the number of the datagram that goes there, `x` and
-// that of one that is lost, `tl` and `tt` for ticks; `si` and `su` start sessions, `in` injects a
-// datagram, `bs` tells a block size, `pw` loses power and `bt` boots.
+/// A happening as two characters: `l` or `t` and the number of the datagram that goes there, `x`
+/// and that of one that is lost, `tl` and `tt` for ticks; `si` and `su` start sessions, `in`
+/// injects a datagram, `bs` tells a block size, `pw` loses power and `bt` boots.
 fn shown(happening: &Happening) -> [u8; 2] {
     match happening {
         Happening::ToLoader(number) => [b'l', digit(*number)],
@@ -364,7 +364,7 @@ fn shown(happening: &Happening) -> [u8; 2] {
     }
 }
 
-// A digit; after 9 come `:` and `;`.
+/// A digit; after 9 come `:` and `;`.
 fn digit(number: u64) -> u8 {
     match u8::try_from(number) {
         Ok(number) => number.saturating_add(b'0'),
@@ -432,7 +432,7 @@ fn scripts_are_followed(rt: HostRuntime) {
     }
 }
 
-// A link that fails at these two calls.
+/// A link that fails at these two calls.
 fn failing(alloc: Global, script: &[u8], calls: (u32, u32)) -> Option<FailLink> {
     let script = Script::read(alloc, script).ok()?;
     let mut link = FailLink::new(alloc, ScriptLink::new(alloc, script));
@@ -457,7 +457,7 @@ fn gives(alloc: Global, link: &mut FailLink, steps: &[u8], wanted: &[u8]) -> boo
     }
 }
 
-// Whether a second post fails, and then a first turn.
+/// Whether a second post fails, and then a first turn.
 fn fails_twice(alloc: Global, link: &mut FailLink) -> bool {
     !is_answered(alloc, link, b"ll")
         && is_answered(alloc, link, b"l")

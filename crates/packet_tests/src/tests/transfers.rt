@@ -19,7 +19,7 @@ const NONE: Options = Options {
     tsize: None,
 };
 
-// What a request asks for in this block size.
+/// What a request asks for in this block size.
 fn with_size(size: u16) -> Options
     ensures { AreInRange result }
 {
@@ -30,7 +30,7 @@ fn with_size(size: u16) -> Options
     }
 }
 
-// What happens to each packet on its way.
+/// What happens to each packet on its way.
 #[derive(Clone, Copy)]
 enum Fate {
     Arrives,
@@ -41,7 +41,7 @@ enum Fate {
     Swapped,
 }
 
-// What came out at both ends.
+/// What came out at both ends.
 #[derive(Clone, Copy, Debug, Default, PartialEq, Eq)]
 struct Outcome {
     blocks: usize,
@@ -71,7 +71,7 @@ impl Outcome {
     }
 }
 
-// The packet that an end sent last arrives at the other.
+/// The packet that an end sent last arrives at the other.
 fn to_receiving(
     sending: &Sending<'_>,
     receiving: &mut Receiving,
@@ -91,8 +91,8 @@ fn to_sending(receiving: &Receiving, sending: &mut Sending<'_>, outcome: &mut Ou
     }
 }
 
-// A transfer between two ends. `late` are two more ends of the same transfer, one round behind:
-// what they send is what the others sent before.
+/// A transfer between two ends. `late` are two more ends of the same transfer, one round behind:
+/// what they send is what the others sent before.
 fn runs(
     (sending, receiving): (&mut Sending<'_>, &mut Receiving),
     (late_sending, late_receiving): (&mut Sending<'_>, &mut Receiving),
@@ -131,7 +131,7 @@ fn runs(
     outcome
 }
 
-// The end that takes this request.
+/// The end that takes this request.
 fn given<'f>(request: &Packet<'_>, file: &'f [u8]) -> Sending<'f>
     requires file { length file.now ≤ 16777215 }
     requires request { IsInRange (packet_view request.now) }
@@ -151,7 +151,7 @@ fn taken(request: &Packet<'_>) -> Receiving
     }
 }
 
-// A file of this name is read, or written, with these options.
+/// A file of this name is read, or written, with these options.
 fn reads(name: Name, file: &[u8], options: Options, fate: Fate) -> Outcome
     requires file { length file.now ≤ 16777215 }
     requires options { AreInRange options }
@@ -192,7 +192,7 @@ const SIZES: [u16; 4] = [8, 512, 1_428, 65_464];
 
 const FATES: [Fate; 4] = [Fate::Arrives, Fate::LostOnce, Fate::Doubled, Fate::Swapped];
 
-// The outcome of a whole transfer of a file of this length in this block size.
+/// The outcome of a whole transfer of a file of this length in this block size.
 fn whole(length: usize, size: u16) -> Outcome {
     Outcome {
         blocks: (length / usize::from(size.max(1))).saturating_add(1),
@@ -233,7 +233,7 @@ fn files_of_each_length_beside_the_block_size_arrive(rt: HostRuntime) -> Result<
     Ok(())
 }
 
-// A file of this length, of which each block differs from the one before.
+/// A file of this length, of which each block differs from the one before.
 fn file_of(rt: &HostRuntime, bytes: usize) -> Result<Vec<u8>, AllocError>
     ensures { IfOk result (λ file. length file.items ≡ bytes) }
 {
@@ -252,7 +252,7 @@ fn the_longest_file_arrives(rt: HostRuntime) -> Result<(), Fail> {
     Ok(())
 }
 
-// Read and written in blocks of 8 bytes, and read with its last byte left out.
+/// Read and written in blocks of 8 bytes, and read with its last byte left out.
 fn in_small_blocks(name: Name, file: &[u8], fate: Fate) -> (Outcome, Outcome, Outcome)
     requires { length file.now ≤ 16777215 }
 {
@@ -279,8 +279,8 @@ fn a_file_of_65_535_blocks_arrives_and_one_of_more_is_sent_in_larger_ones(
     Ok(())
 }
 
-// One letter for what becomes of a packet: `.` nothing, `s` one is sent, `b` a block, `l` the last,
-// `d` done, `e` an ERROR.
+/// One letter for what becomes of a packet: `.` nothing, `s` one is sent, `b` a block, `l` the
+/// last, `d` done, `e` an ERROR.
 fn letter(step: &Step<'_>) -> u8 {
     match (step.send, &step.news) {
         (false, News::Nothing) => b'.',
@@ -293,7 +293,7 @@ fn letter(step: &Step<'_>) -> u8 {
     }
 }
 
-// The datagram that this letter stands for, in tests whose blocks have 8 bytes.
+/// The datagram that this letter stands for, in tests whose blocks have 8 bytes.
 fn datagram(letter: u8) -> &'static [u8] {
     match letter {
         // ACK 0, 1 and 2, and an ERROR.
@@ -323,7 +323,7 @@ fn datagram(letter: u8) -> &'static [u8] {
     }
 }
 
-// How many datagrams, one after the other, become what the letters say.
+/// How many datagrams, one after the other, become what the letters say.
 fn received(begin: Receiving, datagrams: &[u8], letters: &[u8]) -> usize {
     let mut receiving = begin;
     for (i, which) in datagrams.iter().enumerate() {
@@ -349,7 +349,7 @@ fn sent(sending: &mut Sending<'_>, datagrams: &[u8], letters: &[u8]) -> usize {
     datagrams.len()
 }
 
-// An end that asks to read in blocks of 8 bytes.
+/// An end that asks to read in blocks of 8 bytes.
 fn reader(name: Name) -> Receiving {
     Receiving::ask(name, with_size(8))
 }
@@ -371,8 +371,8 @@ fn a_receiving_end_answers_what_it_awaits(rt: HostRuntime) -> Result<(), NameFau
     Ok(())
 }
 
-// What becomes of six datagrams at an end that sends a file of two blocks of 8 bytes, where it was
-// asked for, and where it asks.
+/// What becomes of six datagrams at an end that sends a file of two blocks of 8 bytes, where it was
+/// asked for, and where it asks.
 fn both_sent(name: Name, datagrams: &[u8], served: &[u8], asked: &[u8]) -> (usize, usize) {
     let file = b"123456789".as_slice();
     let mut serving = Sending::serve(FileBytes::Lent(file), with_size(8));
@@ -410,7 +410,7 @@ fn a_full_block_65_535_is_not_taken(rt: HostRuntime) {
     assert_eq!(rt; received(receiving, b"yxmzz", b".s.ls"), 5);
 }
 
-// The first packet of an end that takes a request to read this file.
+/// The first packet of an end that takes a request to read this file.
 fn served(alloc: Global, file: &[u8], options: Options) -> Result<Bytes, NoMemory>
     requires file { length file.now ≤ 16777215 }
     requires options { AreInRange options }
@@ -421,7 +421,7 @@ fn served(alloc: Global, file: &[u8], options: Options) -> Result<Bytes, NoMemor
     bytes
 }
 
-// The first packet of an end that takes a request to write.
+/// The first packet of an end that takes a request to write.
 fn received_first(alloc: Global, options: Options) -> Result<Bytes, NoMemory>
     requires { AreInRange options }
 {
@@ -448,7 +448,7 @@ fn a_request_is_answered_with_the_options_taken_up(rt: HostRuntime) -> Result<()
     Ok(())
 }
 
-// How many bytes are lent at each packet of a file of 1,024 bytes, where each is given twice.
+/// How many bytes are lent at each packet of a file of 1,024 bytes, where each is given twice.
 #[test]
 fn a_packet_that_comes_twice_is_lent_once(rt: HostRuntime) {
     let file = [7; 1024];

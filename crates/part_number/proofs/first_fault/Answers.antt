@@ -1,4 +1,4 @@
-use Rattle.part_number.specs.Laws.Read.{right_check}
+use Rattle.part_number.proofs.Reading.{right_check}
 use Rattle.part_number.proofs.first_fault.Goals as goal
 
 pub returns-then-written-computed-clause-none : goal.returns-then-written-computed-clause-none

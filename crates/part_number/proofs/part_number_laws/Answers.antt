@@ -1,4 +1,4 @@
-use Rattle.part_number.specs.Laws.Texts.{product_of_part}
+use Rattle.part_number.proofs.Texts.{product_of_part}
 use Rattle.part_number.proofs.part_number_laws.Goals as goal
 
 pub returns-clause-one_product : goal.returns-clause-one_product

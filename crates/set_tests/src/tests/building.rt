@@ -45,7 +45,7 @@ const SMALL: [(&[u8], &[u8]); 7] = [
     (b"two", b""),
 ];
 
-// Writes sources of small files.
+/// Writes sources of small files.
 fn write_small(host: &mut MemHost) -> Result<(), Fail> {
     for &(name, bytes) in &SMALL {
         write(host, name, bytes)?;
@@ -53,7 +53,7 @@ fn write_small(host: &mut MemHost) -> Result<(), Fail> {
     Ok(())
 }
 
-// The most bytes of a source, or one more.
+/// The most bytes of a source, or one more.
 fn large(alloc: Global, last: &[u8]) -> Result<Bytes, Fail> {
     let mut bytes = Bytes::new(alloc);
     bytes.reserve(16_777_216)?;
@@ -78,7 +78,7 @@ fn put_sums(sums: &mut Vec<u32>, lists: &[Bytes]) -> Result<(), Fail> {
     Ok(())
 }
 
-// The CRC-32 of each list and of each file, in their order.
+/// The CRC-32 of each list and of each file, in their order.
 pub(crate) fn sums_of(alloc: Global, built: &Built) -> Result<Vec<u32>, Fail> {
     let mut sums = Vec::new(alloc);
     put_sums(&mut sums, built.loads.as_slice())?;
@@ -90,7 +90,7 @@ pub(crate) fn sums_of(alloc: Global, built: &Built) -> Result<Vec<u32>, Fail> {
     Ok(sums)
 }
 
-// The same of the set of a recipe.
+/// The same of the set of a recipe.
 fn built_sums(alloc: Global, start: &[u8], text: &[u8]) -> Result<Vec<u32>, Fail> {
     let mut host = MemHost::new(alloc);
     let answer = answer_of_small(alloc, start, text, &mut host);
@@ -110,7 +110,7 @@ fn built_sums(alloc: Global, start: &[u8], text: &[u8]) -> Result<Vec<u32>, Fail
 
 type Answer = Result<Built, BuildFault>;
 
-// What a host with sources of small files answers to a recipe.
+/// What a host with sources of small files answers to a recipe.
 fn answer_of_small(
     alloc: Global,
     start: &[u8],
@@ -186,7 +186,7 @@ fn positions_are_gathered(rt: HostRuntime) -> Result<(), Fail> {
     Ok(())
 }
 
-// What is answered, as a word with what it tells.
+/// What is answered, as a word with what it tells.
 fn word_of(alloc: Global, answer: Answer) -> Result<Bytes, Fail> {
     let mut word = Bytes::new(alloc);
     let put = put_word(alloc, &mut word, &answer);
@@ -220,8 +220,8 @@ fn put_word(alloc: Global, word: &mut Bytes, answer: &Answer) -> Result<(), NoMe
     }
 }
 
-// What is answered to a recipe after its start, by a host with sources of small files whose call of
-// this number after those that made it fails, if it isn't 0.
+/// What is answered to a recipe after its start, by a host with sources of small files whose call
+/// of this number after those that made it fails, if it isn't 0.
 fn failing(alloc: Global, text: &[u8], call: u32, host: &mut MemHost) -> Result<Answer, Fail> {
     if call > 0 {
         host.fail_at(call.saturating_add(7))?;
@@ -259,8 +259,8 @@ fn the_first_source_is_refused(rt: HostRuntime) -> Result<(), Fail> {
     Ok(())
 }
 
-// The lines of a load for this many kinds of hardware, with this many bytes of user data and a source
-// that is absent.
+/// The lines of a load for this many kinds of hardware, with this many bytes of user data and a
+/// source that is absent.
 fn sized(alloc: Global, hardware: u16, user: u32) -> Result<Bytes, Fail> {
     let mut text = Bytes::new(alloc);
     for _index in 0..hardware {
@@ -298,7 +298,7 @@ fn sizes_come_before_sources(rt: HostRuntime) -> Result<(), Fail> {
     Ok(())
 }
 
-// What is answered to a recipe after its start, by a host with one source that ends so.
+/// What is answered to a recipe after its start, by a host with one source that ends so.
 fn answer_to_large(alloc: Global, text: &[u8], name: &[u8], last: &[u8]) -> Result<Bytes, Fail> {
     let mut host = MemHost::new(alloc);
     let answer = write_large(alloc, text, name, last, &mut host);
@@ -326,7 +326,7 @@ fn a_long_source_is_refused(rt: HostRuntime) -> Result<(), Fail> {
     Ok(())
 }
 
-// What is answered to a load with this many files of the most bytes.
+/// What is answered to a load with this many files of the most bytes.
 fn answer_to_many(alloc: Global, files: u8) -> Result<Bytes, Fail> {
     let mut text = Bytes::new(alloc);
     for file in 0..files {

@@ -10,7 +10,7 @@ use std::alloc::Global;
 use std::test::Fail;
 use worked_files::{APP_FILES, APP_HEADER, APP_LOADS};
 
-// Writes the file of this name.
+/// Writes the file of this name.
 fn write(host: &mut MemHost, name: &[u8], bytes: &[u8]) -> Result<(), Fail> {
     match host.write(name, bytes) {
         Ok(()) => Ok(()),
@@ -19,7 +19,7 @@ fn write(host: &mut MemHost, name: &[u8], bytes: &[u8]) -> Result<(), Fail> {
     }
 }
 
-// The set as it is opened from a host.
+/// The set as it is opened from a host.
 fn opened_set(alloc: Global) -> Result<MediaSet, Fail> {
     let mut host = MemHost::new(alloc);
     let set = write_and_open(alloc, &mut host);
@@ -77,7 +77,7 @@ pub(super) fn name_of(bytes: &[u8]) -> Result<Name, Fail> {
     }
 }
 
-// What is found, a line each.
+/// What is found, a line each.
 fn lines_of(alloc: Global, findings: &[Finding]) -> Result<Bytes, NoMemory> {
     let mut out = Bytes::new(alloc);
     for finding in findings {
@@ -94,7 +94,7 @@ pub(super) fn found_in(alloc: Global, set: &MediaSet) -> Result<Bytes, NoMemory>
     lines
 }
 
-// Whether the set has both lists and its file, and no file of another name.
+/// Whether the set has both lists and its file, and no file of another name.
 fn has_all(set: &MediaSet) -> Result<bool, Fail> {
     let (name, other) = (name_of(b"APP.BIN")?, name_of(b"app.bin")?);
     let Some(file) = set.file(&name) else {
@@ -123,7 +123,7 @@ pub(super) fn list_of(alloc: Global, bytes: &[u8]) -> Result<List<Bytes>, NoMemo
     Ok(list)
 }
 
-// The header, and the file with these bytes.
+/// The header, and the file with these bytes.
 fn bodies(alloc: Global, bytes: &[u8; 9]) -> Result<List<Placed>, Fail>
     ensures { IfOk result (λ bodies. All IsShortBody bodies.items) }
 {
@@ -134,7 +134,7 @@ fn bodies(alloc: Global, bytes: &[u8; 9]) -> Result<List<Placed>, Fail>
     Ok(bodies)
 }
 
-// The set that was built of these lists, with these bytes of its file.
+/// The set that was built of these lists, with these bytes of its file.
 fn built_set(alloc: Global, bytes: &[u8; 9]) -> Result<MediaSet, Fail> {
     let bodies = bodies(alloc, bytes)?;
     let loads = list_of(alloc, &APP_LOADS)?;
@@ -148,7 +148,7 @@ fn built_set(alloc: Global, bytes: &[u8; 9]) -> Result<MediaSet, Fail> {
     Ok(MediaSet::from_parts(alloc, built)?)
 }
 
-// What is found in it.
+/// What is found in it.
 fn found_in_built(alloc: Global, bytes: &[u8; 9]) -> Result<Bytes, Fail> {
     let set = built_set(alloc, bytes)?;
     let found = found_in(alloc, &set);

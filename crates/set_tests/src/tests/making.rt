@@ -4,7 +4,7 @@ use media_build::make;
 use std::alloc::Global;
 use std::test::Fail;
 
-// The CRC-32 of each list and of each file, in their order.
+/// The CRC-32 of each list and of each file, in their order.
 fn made_sums(alloc: Global, number: u32) -> Result<Vec<u32>, Fail> {
     let built = make(alloc, number)?;
     let sums = sums_of(alloc, &built);

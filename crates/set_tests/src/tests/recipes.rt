@@ -24,7 +24,7 @@ hardware FMC-1
 data CFG.BIN 2 cfg.bin CFG1
 ";
 
-// The text of the fault of a recipe; `None` where it is read, and out of memory.
+/// The text of the fault of a recipe; `None` where it is read, and out of memory.
 fn fault_of(alloc: Global, text: &[u8]) -> Option<Bytes> {
     match Recipe::read(alloc, text).err() {
         Some(fault) => printed(alloc, fault),
@@ -50,7 +50,7 @@ fn is_refused(alloc: Global, text: &[u8], fault: &[u8]) -> bool {
     }
 }
 
-// The same of lines after the first three of a recipe of two members.
+/// The same of lines after the first three of a recipe of two members.
 fn is_refused_after(alloc: Global, lines: &[u8], fault: &[u8]) -> bool {
     let mut text = Bytes::new(alloc);
     let start = b"set XYZ5A-0000-0001\nmembers 2\nload ABC41-0000-0001 APP.LUH 1 7 APP\n";
@@ -139,7 +139,7 @@ fn the_first_wrong_word_of_a_batch_is_told(rt: HostRuntime) {
     }
 }
 
-// The same of lines after a batch.
+/// The same of lines after a batch.
 fn is_refused_in_batch(alloc: Global, lines: &[u8], fault: &[u8]) -> bool {
     let mut text = Bytes::new(alloc);
     let batch = b"batch ABC43-0000-0003 TWO.LUB 1\n";
@@ -172,7 +172,7 @@ fn the_first_wrong_word_of_a_target_is_told(rt: HostRuntime) {
     }
 }
 
-// The kinds of the lines of a recipe, a letter each, and the type id of its last load.
+/// The kinds of the lines of a recipe, a letter each, and the type id of its last load.
 fn outline(alloc: Global, text: &[u8]) -> Result<(Bytes, u16), Fail> {
     let recipe = Recipe::read(alloc, text)?;
     let kinds = kinds_of(alloc, &recipe);
@@ -231,7 +231,7 @@ fn a_recipe_with_a_batch_is_read(rt: HostRuntime) -> Result<(), Fail> {
     Ok(())
 }
 
-// A recipe with this many targets in its only batch.
+/// A recipe with this many targets in its only batch.
 fn recipe_of_targets(alloc: Global, targets: u8) -> Result<Bytes, Fail> {
     let mut text = Bytes::new(alloc);
     text.extend(b"set XYZ5A-0000-0001\nmembers 1\nload ABC41-0000-0001 A.LUH 1 7 APP\n")?;
@@ -259,7 +259,7 @@ fn targets_are_limited(rt: HostRuntime) -> Result<(), Fail> {
     Ok(())
 }
 
-// A recipe with this many data files in its first load, and as many further loads.
+/// A recipe with this many data files in its first load, and as many further loads.
 fn recipe_of(alloc: Global, files: u16, loads: u16) -> Result<Bytes, Fail> {
     let mut text = Bytes::new(alloc);
     text.extend(b"set XYZ5A-0000-0001\nmembers 1\nload ABC41-0000-0001 A.LUH 1 7 APP\n")?;
@@ -338,7 +338,7 @@ fn bodies(alloc: Global) -> Result<List<Placed>, Fail> {
     Ok(bodies)
 }
 
-// A set of two members with three files, and with lists of batches or without.
+/// A set of two members with three files, and with lists of batches or without.
 fn built(alloc: Global, has_batches: bool) -> Result<Built, Fail> {
     let bodies = bodies(alloc)?;
     let loads = lists(alloc, b"L1", b"L2")?;
@@ -372,7 +372,7 @@ const NAMES: [&[u8]; 9] = [
     b"P/2/B.BIN",
 ];
 
-// What this host has under the names of the set, a byte each, and `-` where there is no file.
+/// What this host has under the names of the set, a byte each, and `-` where there is no file.
 fn outline_of(alloc: Global, host: &mut MemHost) -> Result<Bytes, Fail> {
     let mut found = Bytes::new(alloc);
     for name in &NAMES {
@@ -384,7 +384,8 @@ fn outline_of(alloc: Global, host: &mut MemHost) -> Result<Bytes, Fail> {
     Ok(found)
 }
 
-// The outline after a writing whose call of this number fails, if it isn't 0, and whether it failed.
+/// The outline after a writing whose call of this number fails, if it isn't 0, and whether it
+/// failed.
 fn written(alloc: Global, has_batches: bool, call: u32) -> Result<(Bytes, bool), Fail> {
     let mut host = MemHost::new(alloc);
     let found = write_failing(alloc, &mut host, has_batches, call);

@@ -16,7 +16,7 @@ use std::alloc::Global;
 use std::test::Fail;
 use target_fleet::{FleetDrive, FleetFault, UnitEnd, fleet, fleet_text};
 
-// A link that begins the script of these lines, of two units.
+/// A link that begins the script of these lines, of two units.
 fn link_of(alloc: Global, asks: &[u8], rest: &[u8]) -> Result<FleetLink, Fail>
     ensures posted { IfOk result (λ link. link.posted ≡ []) }
     ensures units { IfOk result (λ link. link.units ≡ 2) }
@@ -28,7 +28,7 @@ fn link_of(alloc: Global, asks: &[u8], rest: &[u8]) -> Result<FleetLink, Fail>
     Ok(FleetLink::new(alloc, script))
 }
 
-// A letter for what became of the unit's first session, and how many loads stand there.
+/// A letter for what became of the unit's first session, and how many loads stand there.
 fn end_of(unit: &UnitEnd) -> [u8; 2] {
     let letter = match unit.sessions.as_slice().first() {
         Some(session) => match &session.outcome {
@@ -46,12 +46,12 @@ fn end_of(unit: &UnitEnd) -> [u8; 2] {
     [letter, loads]
 }
 
-// How many datagrams were posted at this unit.
+/// How many datagrams were posted at this unit.
 fn posts_of(run: &FleetDrive, unit: usize) -> u8 {
     u8::try_from(run.trace.posted_at(unit)).unwrap_or(b'?')
 }
 
-// The same of both units, each with its datagrams.
+/// The same of both units, each with its datagrams.
 fn ends_of(run: &FleetDrive) -> Option<[u8; 6]> {
     match run.units.as_slice() {
         [first, second] => {
@@ -71,7 +71,7 @@ fn came_to(run: &Result<FleetDrive, FleetFault>) -> Option<[u8; 6]> {
     }
 }
 
-// Two targets of hardware HW1, without loads.
+/// Two targets of hardware HW1, without loads.
 fn two_disks(alloc: Global) -> Result<[Fused<MemDisk>; 2], NoMemory>
     ensures { IfOk result (λ disks. AllDisks (λ disk. IsRunning (fused_in state_of disk)) disks) }
 {
@@ -85,7 +85,7 @@ fn two_disks(alloc: Global) -> Result<[Fused<MemDisk>; 2], NoMemory>
     }
 }
 
-// What this script makes of them, where the loader serves the set of one load.
+/// What this script makes of them, where the loader serves the set of one load.
 fn run(alloc: Global, media: &MediaSet, asks: &[u8], rest: &[u8]) -> Result<Option<[u8; 6]>, Fail> {
     let mut link = link_of(alloc, asks, rest)?;
     let found = run_on(alloc, media, &mut link);
@@ -110,12 +110,12 @@ fn run_on(
     Ok(found)
 }
 
-// An upload to each unit, and one to the second alone.
+/// An upload to each unit, and one to the second alone.
 const BOTH: &[u8] = b"at 1 upload HW1 L ABC41-0000-0001\nat 2 upload HW1 L ABC41-0000-0001\n";
 
 const SECOND: &[u8] = b"at 2 upload HW1 L ABC41-0000-0001\n";
 
-// What each of these scripts makes of them.
+/// What each of these scripts makes of them.
 fn all_of(alloc: Global, media: &MediaSet) -> Result<[Option<[u8; 6]>; 5], Fail> {
     Ok([
         run(alloc, media, BOTH, b"finish\n")?,
@@ -140,7 +140,7 @@ fn each_unit_comes_to_what_it_would_alone(rt: HostRuntime) -> Result<(), Fail> {
     Ok(())
 }
 
-// Whether it is known of each unit what stands on its disk.
+/// Whether it is known of each unit what stands on its disk.
 fn are_known(units: &[UnitEnd]) -> bool
     ensures { IsTrue result ↔ All (λ end. IsSome end.standing) units.now }
 {
@@ -160,7 +160,7 @@ fn report_of(alloc: Global, run: &FleetDrive) -> Result<Bytes, Fail> {
     Ok(fleet_text(alloc, run)?)
 }
 
-// The report of a run, and how many lines its trace has.
+/// The report of a run, and how many lines its trace has.
 fn told(alloc: Global, run: FleetDrive) -> Result<(Bytes, usize), Fail> {
     let report = report_of(alloc, &run)?;
     let FleetDrive {
@@ -187,7 +187,7 @@ fn told_on(alloc: Global, media: &MediaSet, link: &mut FleetLink) -> Result<(Byt
     }
 }
 
-// As another program printed it.
+/// As another program printed it.
 const REPORT: &[u8] = b"unit 1
 datagrams 0
 target HW1 L SN1

@@ -26,7 +26,7 @@ use std::test::Fail;
 use upload_replay::{Drive, DriveFault, drive};
 use worked_files::{APP_FILES, APP_HEADER, APP_LOADS};
 
-// The contents of the one file of each of the first two loads.
+/// The contents of the one file of each of the first two loads.
 const BODY: &[u8] = b"123456789";
 
 pub(crate) const ONE_LOAD: [(&[u8], &[u8]); 4] = [
@@ -98,7 +98,7 @@ fn write_and_open(
     }
 }
 
-// The set of these files.
+/// The set of these files.
 pub(crate) fn opened(alloc: Global, files: &[(&[u8], &[u8])]) -> Result<MediaSet, Fail> {
     let mut host = MemHost::new(alloc);
     let opened = write_and_open(alloc, &mut host, files);
@@ -133,8 +133,8 @@ const FMC_1: UnitUnderTest<'static> = UnitUnderTest {
     identity: b"A615\0\x01\0\x01\0\0\x05FMC-1\x01R\x04SN77\xA3\x3E",
 };
 
-// A load that a session brings: its part number, the name of its header, and how many files it has
-// with the header.
+/// A load that a session brings: its part number, the name of its header, and how many files it has
+/// with the header.
 type Brought<'a> = (&'a [u8], &'a [u8], usize);
 
 const APP: Brought<'static> = (b"ABC41-0000-0001", b"APP.LUH", 2);
@@ -172,7 +172,7 @@ const UPLOAD_OF_ONE: Session<'static> = Session {
         \x07APP.LUH\x0FABC41-0000-0001\x31\x30\x30\0\x03\0",
 };
 
-// An upload that is stopped at its header.
+/// An upload that is stopped at its header.
 const STOPPED_UPLOAD: Session<'static> = Session {
     script: b"upload HW1 L ABC41-0000-0001\nfinish\n",
     unit: HW1,
@@ -241,7 +241,7 @@ fn is_load(load: &Load, brought: Brought<'_>, files: &[(&[u8], &[u8])]) -> bool 
         && are_files(load.files.as_slice(), files)
 }
 
-// So many files from one on; none where there aren't so many.
+/// So many files from one on; none where there aren't so many.
 fn files_from<T>(files: &[T], first: usize, count: usize) -> &[T] {
     if first <= files.len() && count <= files.len() - first {
         &files[first..first + count]
@@ -250,7 +250,7 @@ fn files_from<T>(files: &[T], first: usize, count: usize) -> &[T] {
     }
 }
 
-// Whether these are the loads that are brought, with their files and no others.
+/// Whether these are the loads that are brought, with their files and no others.
 fn are_loads(loads: &[Load], brought: &[Brought<'_>], files: &[(&[u8], &[u8])]) -> bool {
     if loads.len() != brought.len() {
         return false;
@@ -272,8 +272,8 @@ fn is_of_unit(identity: &Identity, unit: &UnitUnderTest<'_>) -> bool {
         && identity.bank == unit.bank
 }
 
-// A letter for what stands: `o` for what stood before the session, `n` for all that it brings, `?`
-// for anything else.
+/// A letter for what stands: `o` for what stood before the session, `n` for all that it brings, `?`
+/// for anything else.
 fn letter_of(standing: &Standing, session: &Session<'_>) -> u8 {
     let loads = standing.config.loads.as_slice();
     if !is_of_unit(&standing.identity, &session.unit) {
@@ -286,7 +286,7 @@ fn letter_of(standing: &Standing, session: &Session<'_>) -> u8 {
     }
 }
 
-// A letter for what a disk holds that is switched off and on.
+/// A letter for what a disk holds that is switched off and on.
 fn left_on(alloc: Global, disk: &mut Fused<MemDisk>, session: &Session<'_>) -> Result<u8, Fail> {
     match disk.restart() {
         Ok(()) => {}
@@ -298,9 +298,9 @@ fn left_on(alloc: Global, disk: &mut Fused<MemDisk>, session: &Session<'_>) -> R
     Ok(letter)
 }
 
-// A letter for a call of the link, by the step of the trace that it stands for: `g` where something
-// happens, `l` where the loader posts and `t` where the target does, but `r` where it reports the
-// completion.
+/// A letter for a call of the link, by the step of the trace that it stands for: `g` where
+/// something happens, `l` where the loader posts and `t` where the target does, but `r` where it
+/// reports the completion.
 fn call_of(step: &TraceStep, report: &[u8]) -> u8 {
     match step {
         TraceStep::Given(_) => b'g',
@@ -326,8 +326,8 @@ fn put_calls(
     Ok(())
 }
 
-// The letter of what a session leaves where the link failed, and of what it came to where that is
-// as it should be and left what it brings.
+/// The letter of what a session leaves where the link failed, and of what it came to where that is
+/// as it should be and left what it brings.
 fn after(came: [u8; 2], left: u8, session: &Session<'_>) -> u8 {
     let brought = if session.loads.is_empty() { b'o' } else { b'n' };
     if came == *b"l-" {
@@ -339,7 +339,7 @@ fn after(came: [u8; 2], left: u8, session: &Session<'_>) -> u8 {
     }
 }
 
-// Runs a session, and tells what it leaves by a letter.
+/// Runs a session, and tells what it leaves by a letter.
 fn run_on(
     alloc: Global,
     media: &MediaSet,
@@ -361,7 +361,7 @@ fn run_on(
     Ok(after(came, left, session))
 }
 
-// The disk of a target that was formatted, by the bytes of its identity.
+/// The disk of a target that was formatted, by the bytes of its identity.
 pub(crate) fn disk_of(alloc: Global, identity: &[u8; 25]) -> Result<Fused<MemDisk>, NoMemory>
     ensures { IfOk result (λ disk. IsRunning (fused_in state_of disk)) }
 {
@@ -389,7 +389,7 @@ fn run_over(
     left
 }
 
-// What a session leaves where this call of the link is refused.
+/// What a session leaves where this call of the link is refused.
 fn run_refusing(
     alloc: Global,
     media: &MediaSet,
@@ -403,8 +403,8 @@ fn run_refusing(
     left
 }
 
-// Tells of a session with each of these calls of the link refused in turn what it leaves, and the
-// calls of the one that completes.
+/// Tells of a session with each of these calls of the link refused in turn what it leaves, and the
+/// calls of the one that completes.
 fn refuse_each(
     alloc: Global,
     media: &MediaSet,
@@ -420,7 +420,7 @@ fn refuse_each(
     Ok(())
 }
 
-// The same of the set of these files: the calls, and what each leaves.
+/// The same of the set of these files: the calls, and what each leaves.
 fn told(
     alloc: Global,
     files: &[(&[u8], &[u8])],
@@ -441,8 +441,8 @@ fn told(
     }
 }
 
-// How many refused calls leave the old configuration, how many the new one, and how often the new
-// one comes after the old.
+/// How many refused calls leave the old configuration, how many the new one, and how often the new
+/// one comes after the old.
 fn counts(left: &[u8]) -> (u32, u32, u32) {
     let (mut old, mut new, mut changes) = (0u32, 0u32, 0u32);
     let mut before = b'o';
@@ -460,8 +460,8 @@ fn counts(left: &[u8]) -> (u32, u32, u32) {
     (old, new, changes)
 }
 
-// How many calls there are from the report of the completion on, and how many of these leave the new
-// configuration where they are refused.
+/// How many calls there are from the report of the completion on, and how many of these leave the
+/// new configuration where they are refused.
 fn from_report_on(calls: &[u8], left: &[u8]) -> (u32, u32) {
     let (mut all, mut new) = (0u32, 0u32);
     for (&call, &letter) in calls.iter().zip(left) {
@@ -475,7 +475,8 @@ fn from_report_on(calls: &[u8], left: &[u8]) -> (u32, u32) {
     (all, new)
 }
 
-// The calls of a session, by the lines of its worked trace, and what is left where each is refused.
+/// The calls of a session, by the lines of its worked trace, and what is left where each is
+/// refused.
 const CALLS_OF_INFORMATION: &[u8] = b"glgtglgtglgtglgtglgtglgg";
 
 const LEFT_OF_INFORMATION: &[u8] = b"ooooooooooooooooooooooooc";
@@ -490,12 +491,12 @@ fn an_information_session_leaves_what_was_there(rt: HostRuntime) -> Result<(), F
     Ok(())
 }
 
-// The same of an upload.
+/// The same of an upload.
 const CALLS_OF_ONE: &[u8] = b"glgtglgtglgtgllggtglgttgglgttgglgttgglgrglgg";
 
 const LEFT_OF_ONE: &[u8] = b"ooooooooooooooooooooooooooooooooonnnnnnnnnnnc";
 
-// The last block of `APP.BIN` is the 16th datagram, which the call 33 gives to the target.
+/// The last block of `APP.BIN` is the 16th datagram, which the call 33 gives to the target.
 #[test]
 fn an_upload_leaves_old_or_new_whichever_call_is_refused(rt: HostRuntime) -> Result<(), Fail> {
     let (calls, left) = told(rt.alloc(), &ONE_LOAD, &UPLOAD_OF_ONE, 45)?;
@@ -507,7 +508,7 @@ fn an_upload_leaves_old_or_new_whichever_call_is_refused(rt: HostRuntime) -> Res
     Ok(())
 }
 
-// The same of an upload that is stopped.
+/// The same of an upload that is stopped.
 const CALLS_OF_STOPPED: &[u8] = b"glgtglgtglgtgllggtglgttgglgttgglgtglgg";
 
 const LEFT_OF_STOPPED: &[u8] = b"oooooooooooooooooooooooooooooooooooooos";
@@ -526,12 +527,12 @@ fn a_stopped_upload_leaves_what_was_there(rt: HostRuntime) -> Result<(), Fail> {
     Ok(())
 }
 
-// The same of two loads.
+/// The same of two loads.
 const CALLS_OF_TWO: &[u8] = b"glgtglgtglgtgllggtglgttgglgttgglgttgglgtglgtglgttgglgttgglgrglgg";
 
 const LEFT_OF_TWO: &[u8] = b"ooooooooooooooooooooooooooooooooooooooooooooooooooooonnnnnnnnnnnc";
 
-// The last block of `OPS.BIN` is the 26th datagram, which the call 53 gives to the target.
+/// The last block of `OPS.BIN` is the 26th datagram, which the call 53 gives to the target.
 #[test]
 fn an_upload_of_two_loads_leaves_none_or_both(rt: HostRuntime) -> Result<(), Fail> {
     let (calls, left) = told(rt.alloc(), &TWO_LOADS, &UPLOAD_OF_TWO, 65)?;
@@ -543,14 +544,14 @@ fn an_upload_of_two_loads_leaves_none_or_both(rt: HostRuntime) -> Result<(), Fai
     Ok(())
 }
 
-// The same of three loads on two members.
+/// The same of three loads on two members.
 const CALLS_OF_THREE: &[u8] = b"glgtglgtglgtgllggtglgttgglgttgglgttgglgttgglgttgglgtglgtglgt\
     tgglgttgglgtglgtglgttgglgttgglgrglgg";
 
 const LEFT_OF_THREE: &[u8] = b"oooooooooooooooooooooooooooooooooooooooooooooooooooooooooooo\
     ooooooooooooooooooooooooonnnnnnnnnnnc";
 
-// The last block of `CFG.BIN` is the 42nd datagram, which the call 85 gives to the target.
+/// The last block of `CFG.BIN` is the 42nd datagram, which the call 85 gives to the target.
 #[test]
 fn an_upload_of_three_loads_leaves_none_or_all(rt: HostRuntime) -> Result<(), Fail> {
     let (calls, left) = told(rt.alloc(), &THREE_LOADS, &UPLOAD_OF_THREE, 97)?;

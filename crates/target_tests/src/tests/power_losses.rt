@@ -13,10 +13,10 @@ use std::test::Fail;
 use target_machine::Target;
 use worked_files::{ACK_0, ACK_1, APP_HEADER};
 
-// The bytes of a disk with banks of 4096 bytes.
+/// The bytes of a disk with banks of 4096 bytes.
 const WHOLE: usize = 16_384;
 
-// The load's header, as a datagram brings it.
+/// The load's header, as a datagram brings it.
 fn header() -> [u8; 126] {
     let mut bytes = [0; 126];
     bytes[..4].copy_from_slice(b"\0\x03\0\x01");
@@ -24,7 +24,7 @@ fn header() -> [u8; 126] {
     bytes
 }
 
-// Its file, as a datagram brings it.
+/// Its file, as a datagram brings it.
 const FILE: &[u8] = b"\0\x03\0\x01123456789";
 
 const ASKS_LUI: &[u8] = b"\0\x01HW1_L.LUI\0octet\0";
@@ -33,14 +33,14 @@ const ASKS_LUR: &[u8] = b"\0\x02HW1_L.LUR\0octet\0";
 
 const LUR: &[u8] = b"\0\x03\0\x01\0\0\0\x20\x41\x33\0\x01\x07APP.LUH\x0FABC41-0000-0001";
 
-// Puts bytes at an offset, where they end within the disk.
+/// Puts bytes at an offset, where they end within the disk.
 fn put(image: &mut [u8; WHOLE], at: usize, bytes: &[u8]) {
     if at <= image.len() && bytes.len() <= image.len() - at {
         image[at..at + bytes.len()].copy_from_slice(bytes);
     }
 }
 
-// What an unsynced write leaves: nothing, its bytes, or others.
+/// What an unsynced write leaves: nothing, its bytes, or others.
 fn leave(image: &mut [u8; WHOLE], note: &Note, way: u32) {
     let Call::Write { at, bytes } = &note.call else {
         return;
@@ -56,7 +56,7 @@ fn leave(image: &mut [u8; WHOLE], note: &Note, way: u32) {
     }
 }
 
-// The disk after these calls, of which each write is left in the way of its digit to the base 3.
+/// The disk after these calls, of which each write is left in the way of its digit to the base 3.
 fn left(before: &[u8; WHOLE], notes: &[Note], ways: u32) -> [u8; WHOLE] {
     let mut image = *before;
     let mut digits = ways;
@@ -79,7 +79,8 @@ fn is_load(load: &Load) -> bool {
         && is_file(&files[1], b"APP.BIN", &FILE[4..])
 }
 
-// Whether it is the configuration that the upload brings, or, if not, whether it is the one before.
+/// Whether it is the configuration that the upload brings, or, if not, whether it is the one
+/// before.
 fn is_new(standing: &Standing) -> Result<bool, Fail> {
     let loads = standing.config.loads.as_slice();
     match (standing.bank, standing.sequence, loads.len()) {
@@ -89,7 +90,7 @@ fn is_new(standing: &Standing) -> Result<bool, Fail> {
     }
 }
 
-// The disk after these calls, of which each write is synced.
+/// The disk after these calls, of which each write is synced.
 fn synced(before: &[u8; WHOLE], notes: &[Note]) -> [u8; WHOLE] {
     let mut image = *before;
     for note in notes {
@@ -98,7 +99,7 @@ fn synced(before: &[u8; WHOLE], notes: &[Note]) -> [u8; WHOLE] {
     image
 }
 
-// How many of these calls come until the last sync has ended.
+/// How many of these calls come until the last sync has ended.
 fn until_sync(notes: &[Note]) -> usize {
     let last = notes
         .iter()
@@ -106,9 +107,9 @@ fn until_sync(notes: &[Note]) -> usize {
     last.map_or(0, |last| last + 1)
 }
 
-// How many images a power loss may leave after these calls, where each write since the last sync
-// has left nothing, its bytes or others, and how many of these are recovered as the new
-// configuration. Each other one has to be recovered as the old.
+/// How many images a power loss may leave after these calls, where each write since the last sync
+/// has left nothing, its bytes or others, and how many of these are recovered as the new
+/// configuration. Each other one has to be recovered as the old.
 fn images_after(alloc: Global, before: &[u8; WHOLE], notes: &[Note]) -> Result<(u32, u32), Fail> {
     let end = until_sync(notes);
     let settled = synced(before, notes.get(..end).unwrap_or(notes));
@@ -126,7 +127,7 @@ fn images_after(alloc: Global, before: &[u8; WHOLE], notes: &[Note]) -> Result<(
     Ok((images, new))
 }
 
-// Whether a disk of these bytes holds the new configuration, or, if not, the old.
+/// Whether a disk of these bytes holds the new configuration, or, if not, the old.
 fn is_new_on(alloc: Global, image: &[u8; WHOLE]) -> Result<bool, Fail> {
     let mut disk = MemDisk::new(alloc, image)?;
     let standing = recover(alloc, &mut disk);
@@ -137,7 +138,7 @@ fn is_new_on(alloc: Global, image: &[u8; WHOLE]) -> Result<bool, Fail> {
     found
 }
 
-// The target hears this datagram, from one port to another.
+/// The target hears this datagram, from one port to another.
 fn hears(
     target: &mut Target<'_, PermitsAll>,
     disk: &mut MemDisk,
@@ -152,7 +153,7 @@ fn hears(
     is_heard
 }
 
-// It hears what the loader posts in an upload of that load, after which its session is over.
+/// It hears what the loader posts in an upload of that load, after which its session is over.
 fn uploads(target: &mut Target<'_, PermitsAll>, disk: &mut MemDisk) -> bool
     requires { IsRunning (state_of disk.old) }
 {
@@ -186,7 +187,7 @@ fn upload(alloc: Global, disk: &mut MemDisk) -> bool
     }
 }
 
-// The bytes of a formatted disk without loads.
+/// The bytes of a formatted disk without loads.
 fn first_bytes(alloc: Global) -> Result<[u8; WHOLE], Fail> {
     let disk = formatted(alloc, ident(b"HW1")?, ident(b"L")?, ident(b"SN1")?)?;
     let mut bytes = [0; WHOLE];
@@ -195,8 +196,8 @@ fn first_bytes(alloc: Global) -> Result<[u8; WHOLE], Fail> {
     Ok(bytes)
 }
 
-// How many calls an upload makes, at how many moments of it there are as many images, and as many of
-// the new configuration, as are wanted.
+/// How many calls an upload makes, at how many moments of it there are as many images, and as many
+/// of the new configuration, as are wanted.
 fn moments(
     alloc: Global,
     disk: &mut MemDisk,
@@ -218,9 +219,9 @@ fn moments(
     Ok((disk.notes().len(), moments))
 }
 
-// At each moment of an upload, told by the calls of the disk that have ended or begun. A moment
-// inside a write has the images from before it and those after it, and one inside a sync those from
-// before it. The writes are the header, the file, the manifest, the slot's body and its gate.
+/// At each moment of an upload, told by the calls of the disk that have ended or begun. A moment
+/// inside a write has the images from before it and those after it, and one inside a sync those
+/// from before it. The writes are the header, the file, the manifest, the slot's body and its gate.
 #[test]
 fn each_image_of_an_upload_is_old_or_new(rt: HostRuntime) -> Result<(), Fail> {
     let wanted = [

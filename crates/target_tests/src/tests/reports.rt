@@ -18,7 +18,7 @@ fn ident(bytes: &[u8]) -> Result<Ident, Fail> {
     }
 }
 
-// Each datagram by its side, its ports and its payload; each is delivered as soon as it is posted.
+/// Each datagram by its side, its ports and its payload; each is delivered as soon as it is posted.
 const POSTS: [(Side, u16, u16, &[u8]); 11] = [
     (Side::Loader, 1024, 59, b"\0\x01HW1_L.LCI\0octet\0"),
     (
@@ -81,7 +81,7 @@ fn put_trace(alloc: Global, trace: &mut List<TraceStep>) -> Result<(), Fail> {
     Ok(())
 }
 
-// A run with the target as it is at the end, of which nothing is told yet.
+/// A run with the target as it is at the end, of which nothing is told yet.
 fn empty_run(alloc: Global) -> Result<Drive, Fail>
     ensures { IfOk result (λ drive. IsSome drive.standing) }
 {
@@ -93,7 +93,7 @@ fn empty_run(alloc: Global) -> Result<Drive, Fail>
     })
 }
 
-// Its session.
+/// Its session.
 fn session(alloc: Global) -> Result<Session, Fail> {
     let listed = listed(alloc)?;
     Ok(Session {
@@ -164,7 +164,7 @@ bank 0 sequence 1
 loads 0
 ";
 
-// Tells the run, and gives its report and its trace.
+/// Tells the run, and gives its report and its trace.
 fn texts(alloc: Global, run: &mut Drive) -> Result<(Bytes, Bytes), Fail>
     requires { IsSome run.old.standing }
 {

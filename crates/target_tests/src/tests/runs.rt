@@ -24,7 +24,7 @@ fn ident(bytes: &[u8]) -> Result<Ident, Fail> {
     }
 }
 
-// A set without lists.
+/// A set without lists.
 fn no_media(alloc: Global) -> Result<MediaSet, Fail> {
     let mut host = MemHost::new(alloc);
     let opened = open_set(alloc, &mut host, b"P");
@@ -38,7 +38,7 @@ fn no_media(alloc: Global) -> Result<MediaSet, Fail> {
     }
 }
 
-// A disk of zeros that was formatted, by nine calls.
+/// A disk of zeros that was formatted, by nine calls.
 fn formatted(alloc: Global) -> Result<MemDisk, Fail>
     ensures running { IfOk result (λ disk. IsRunning (state_of disk)) }
     ensures steady { IfOk result (λ disk. (state_of disk).steady ≡ true) }
@@ -59,7 +59,7 @@ fn formatted(alloc: Global) -> Result<MemDisk, Fail>
     }
 }
 
-// A link to which nothing was posted, of which this call fails.
+/// A link to which nothing was posted, of which this call fails.
 pub(crate) fn link_of(alloc: Global, script: &[u8], call: u32) -> Result<FailLink, Fail>
     ensures { IfOk result (λ link. (link_in link).posted ≡ []) }
 {
@@ -74,8 +74,8 @@ pub(crate) fn link_of(alloc: Global, script: &[u8], call: u32) -> Result<FailLin
     }
 }
 
-// A letter for what a run came to: the outcome of its first session, or why there is no run; and
-// one for whether the configuration at the end is known.
+/// A letter for what a run came to: the outcome of its first session, or why there is no run; and
+/// one for whether the configuration at the end is known.
 pub(crate) fn letters(run: &Result<Drive, DriveFault>) -> [u8; 2] {
     match run {
         Ok(run) => [
@@ -103,7 +103,7 @@ fn outcome(run: &Drive) -> u8 {
     }
 }
 
-// The run of a script where this call of the link and this one of the disk fail.
+/// The run of a script where this call of the link and this one of the disk fail.
 fn run_failing(alloc: Global, script: &[u8], link: u32, disk: u32) -> Result<[u8; 2], Fail> {
     let mut link = link_of(alloc, script, link)?;
     let found = run_over(alloc, &mut link, disk);
@@ -120,7 +120,7 @@ fn run_over(alloc: Global, link: &mut FailLink, call: u32) -> Result<[u8; 2], Fa
     found
 }
 
-// The disk of a target, of which this call fails.
+/// The disk of a target, of which this call fails.
 fn failing(alloc: Global, call: u32) -> Result<Fused<MemDisk>, Fail>
     ensures { IfOk result (λ disk. IsRunning (fused_in state_of disk)) }
 {
@@ -173,9 +173,9 @@ const RUNS: [(&[u8], u32, u32, &[u8; 2]); 16] = [
     (INFORMATION, 0, 17, b"cu"),
 ];
 
-// The target comes up by four reads, the calls 10 to 13 of the disk, and the configuration at the
-// end is recovered by four more. The link is asked 13 times for what happens, and posted eleven
-// datagrams.
+/// The target comes up by four reads, the calls 10 to 13 of the disk, and the configuration at the
+/// end is recovered by four more. The link is asked 13 times for what happens, and posted eleven
+/// datagrams.
 #[test]
 fn a_run_or_the_cause_why_there_is_none(rt: HostRuntime) -> Result<(), Fail> {
     for &(script, link, disk, wanted) in &RUNS {

@@ -21,7 +21,7 @@ pub(crate) fn ident(bytes: &[u8]) -> Result<Ident, Fail> {
     }
 }
 
-// A formatted disk without loads.
+/// A formatted disk without loads.
 pub(crate) fn formatted(
     alloc: Global,
     hw: Ident,
@@ -46,7 +46,7 @@ pub(crate) fn formatted(
     }
 }
 
-// What is posted: from one port to another, these bytes.
+/// What is posted: from one port to another, these bytes.
 type Post<'a> = (u16, u16, &'a [u8]);
 
 const NONE: Post<'static> = (0, 0, b"");
@@ -65,7 +65,7 @@ fn is_posted(posts: &Posts, post: Post<'_>) -> bool {
     is_post(&posts.first, post) && is_post(&posts.second, NONE)
 }
 
-// A datagram that comes, from one port to another, and what is posted then.
+/// A datagram that comes, from one port to another, and what is posted then.
 type Row<'a> = (u16, u16, &'a [u8], Post<'a>);
 
 fn answers(target: &mut Target<'_, PermitsAll>, disk: &mut MemDisk, row: Row<'_>) -> bool
@@ -85,8 +85,8 @@ fn answers(target: &mut Target<'_, PermitsAll>, disk: &mut MemDisk, row: Row<'_>
     }
 }
 
-// An information session, and requests that begin none: for a file that isn't there, and from a
-// port that isn't fresh.
+/// An information session, and requests that begin none: for a file that isn't there, and from a
+/// port that isn't fresh.
 fn informs(target: &mut Target<'_, PermitsAll>, disk: &mut MemDisk) -> bool
     requires { IsRunning (state_of disk.old) }
     ensures { result ≡ true → IsRunning (state_of disk.new) }
@@ -103,7 +103,7 @@ fn informs(target: &mut Target<'_, PermitsAll>, disk: &mut MemDisk) -> bool
         && answers(target, disk, (1026, 59, ASKS_LCI, NONE))
 }
 
-// An upload up to its request, which comes last: it asks for no load, so that the upload stops.
+/// An upload up to its request, which comes last: it asks for no load, so that the upload stops.
 fn uploads(target: &mut Target<'_, PermitsAll>, disk: &mut MemDisk) -> bool
     requires { IsRunning (state_of disk.old) }
 {
@@ -162,8 +162,8 @@ fn sessions_go_by_their_rows(rt: HostRuntime) -> Result<(), Fail> {
     Ok(())
 }
 
-// Of a target that boots at this port: whether these datagrams are answered so, and whether its last
-// reason is that no port was left, or it has none.
+/// Of a target that boots at this port: whether these datagrams are answered so, and whether its
+/// last reason is that no port was left, or it has none.
 fn boots_at(
     alloc: Global,
     disk: &mut MemDisk,
@@ -200,7 +200,7 @@ fn answers_both(
     (answered, spent, target.last_reason().is_none())
 }
 
-// The last port serves the LCI, and none is left for the LCS.
+/// The last port serves the LCI, and none is left for the LCS.
 #[test]
 fn a_session_ends_where_no_port_is_left(rt: HostRuntime) -> Result<(), Fail> {
     let (hw, pos, serial) = (ident(b"HW1")?, ident(b"L")?, ident(b"SN1")?);
@@ -213,7 +213,7 @@ fn a_session_ends_where_no_port_is_left(rt: HostRuntime) -> Result<(), Fail> {
     Ok(())
 }
 
-// A request that finds no port is dropped and raises no mark, so that it can come again.
+/// A request that finds no port is dropped and raises no mark, so that it can come again.
 #[test]
 fn requests_are_dropped_where_no_port_is_left(rt: HostRuntime) -> Result<(), Fail> {
     let (hw, pos, serial) = (ident(b"HW1")?, ident(b"L")?, ident(b"SN1")?);

@@ -1,4 +1,4 @@
-use Rattle.session_rules.specs.SoundnessLaws.{headers_are_spelled}
+use Rattle.session_rules.proofs.SoundnessLemmas.{headers_are_spelled}
 use Rattle.worked_traces.proofs.FaultFreeRun.{losses_are_fault_free, losses_left_to_finish, losses_within_margin}
 use Rattle.worked_traces.proofs.losses_are_fault_free.Goals as goal
 

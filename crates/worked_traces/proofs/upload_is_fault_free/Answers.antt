@@ -1,4 +1,4 @@
-use Rattle.session_rules.specs.SoundnessLaws.{headers_are_spelled}
+use Rattle.session_rules.proofs.SoundnessLemmas.{headers_are_spelled}
 use Rattle.worked_traces.proofs.FaultFreeRun.{upload_is_fault_free}
 use Rattle.worked_traces.proofs.upload_is_fault_free.Goals as goal
 

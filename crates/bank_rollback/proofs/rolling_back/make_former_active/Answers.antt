@@ -1,5 +1,5 @@
 use Rattle.std.proofs.Common.{inl, inr, sym, ◌∙◌}
-use Rattle.disk_model.specs.MomentLaws.{read_goes_on, started}
+use Rattle.disk_model.proofs.MomentLemmas.{read_goes_on, started}
 use Rattle.bank_store.specs.Fits.{InstallsBeside}
 use Rattle.bank_store.specs.Given.{configured}
 use Rattle.bank_rollback.specs.Rollbacks.{IsActiveOrFormer}

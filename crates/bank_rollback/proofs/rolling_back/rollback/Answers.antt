@@ -1,6 +1,6 @@
 use Rattle.std.proofs.Common.{inr}
 use Rattle.std.proofs.lemmas.Result.{err_from_is_err_and}
-use Rattle.disk_model.specs.MomentLaws.{read_goes_on}
+use Rattle.disk_model.proofs.MomentLemmas.{read_goes_on}
 use Rattle.disk_layout.specs.Holds.{standing_view}
 use Rattle.bank_rollback.specs.Rollbacks.{IsActiveOrFormer}
 use Rattle.bank_rollback.proofs.Rolled.{look_goes_on, look_refused, rolled_on, rolls_back, still_reads, told_after, was_brought}

@@ -1,6 +1,6 @@
 use Rattle.std.proofs.Common.{◌≡◌, ◌-◌}
 use Rattle.field_grammar.specs.Grammar.{times, read}
-use Rattle.field_grammar.specs.LoopLaws.{with_prefix}
+use Rattle.field_grammar.proofs.LoopLemmas.{with_prefix}
 use Rattle.batch_lists.specs.Batch.{one_part}
 use Rattle.batch_lists.proofs.batch_reading.read_so_many_parts.Given as goal
 

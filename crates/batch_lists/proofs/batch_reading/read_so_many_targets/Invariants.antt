@@ -1,7 +1,7 @@
 use Rattle.std.proofs.Common.{◌≡◌, ◌-◌}
 use Rattle.std.specs.Prelude.{map}
 use Rattle.field_grammar.specs.Grammar.{times, read}
-use Rattle.field_grammar.specs.LoopLaws.{with_prefix}
+use Rattle.field_grammar.proofs.LoopLemmas.{with_prefix}
 use Rattle.batch_lists.specs.Batch.{batch_target, batch_target_view}
 use Rattle.batch_lists.proofs.batch_reading.read_so_many_targets.Given as goal
 

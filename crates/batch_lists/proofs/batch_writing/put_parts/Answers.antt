@@ -1,5 +1,5 @@
 use Rattle.field_grammar.specs.Fields.{padded_fields}
-use Rattle.field_grammar.specs.WrittenLaws.{written_more}
+use Rattle.field_grammar.proofs.WrittenLemmas.{written_more}
 use Rattle.batch_lists.proofs.batch_writing.put_parts.Goals as goal
 
 pub loop-part-preserved : goal.loop-part-preserved

@@ -1,6 +1,6 @@
 use Rattle.std.proofs.Common.{◌≤◌, length, sym, subst}
 use Rattle.std.proofs.lemmas.List.Elements.{All-get_or}
-use Rattle.field_grammar.specs.WrittenLaws.{written_more_seen}
+use Rattle.field_grammar.proofs.WrittenLemmas.{written_more_seen}
 use Rattle.batch_lists.specs.Batch.{batch_target_view}
 use Rattle.batch_lists.specs.BatchFields.{batch_target_fields}
 use Rattle.batch_lists.specs.declared.batch.BatchTarget.{BatchTarget}

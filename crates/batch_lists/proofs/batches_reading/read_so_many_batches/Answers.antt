@@ -1,8 +1,8 @@
 use Rattle.std.proofs.Common.{arith, length-append}
-use Rattle.field_grammar.specs.LoopLaws.{list_goes_on}
+use Rattle.field_grammar.proofs.LoopLemmas.{list_goes_on}
 use Rattle.media_lists.specs.Entries.{entry_after}
 use Rattle.batch_lists.specs.Batches.{batch_body, batch_file}
-use Rattle.media_lists.specs.FitLaws.{order_pushed}
+use Rattle.media_lists.proofs.FitLemmas.{order_pushed}
 use Rattle.batch_lists.proofs.batches_reading.read_so_many_batches.Goals as goal
 
 pub loop-preserved : goal.loop-preserved

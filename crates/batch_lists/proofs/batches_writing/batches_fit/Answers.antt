@@ -1,6 +1,6 @@
 use Rattle.std.proofs.Common.{rules, arith}
 use Rattle.batch_lists.specs.Batches.{batches_list_view, batch_file, batch_body_fields, IsListedBatch}
-use Rattle.media_lists.specs.FitLaws.{list_tells}
+use Rattle.media_lists.proofs.FitLemmas.{list_tells}
 use Rattle.batch_lists.proofs.BatchesFit.{all_fit}
 use Rattle.batch_lists.proofs.batches_writing.batches_fit.Goals as goal
 

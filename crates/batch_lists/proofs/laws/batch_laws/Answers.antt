@@ -1,6 +1,6 @@
 use Rattle.std.proofs.Common.{List, ℕ, length, ap, sym, ◌∙◌}
-use Rattle.field_grammar.specs.ExactLaws.{decided, whole_one_value, answer-spelled, spelled_at_start}
-use Rattle.field_grammar.specs.DecoderLaws.{spelling_is, spelled_by}
+use Rattle.field_grammar.proofs.ExactLemmas.{decided, whole_one_value, answer-spelled, spelled_at_start}
+use Rattle.field_grammar.proofs.DecoderLemmas.{spelling_is, spelled_by}
 use Rattle.batch_lists.specs.Batch.{batch}
 use Rattle.batch_lists.specs.BatchFields.{batch_fields, IsBatch}
 use Rattle.batch_lists.proofs.BatchSizes.{small_batch, size_batch}

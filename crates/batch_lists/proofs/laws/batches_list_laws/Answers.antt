@@ -1,6 +1,6 @@
 use Rattle.std.proofs.Common.{sym, ◌∙◌}
-use Rattle.field_grammar.specs.ExactLaws.{decided, whole_one_value, answer-spelled, spelled_at_start}
-use Rattle.field_grammar.specs.DecoderLaws.{spelling_is, spelled_by}
+use Rattle.field_grammar.proofs.ExactLemmas.{decided, whole_one_value, answer-spelled, spelled_at_start}
+use Rattle.field_grammar.proofs.DecoderLemmas.{spelling_is, spelled_by}
 use Rattle.media_lists.specs.ListFields.{list_fields}
 use Rattle.batch_lists.specs.Batches.{batches_list, batch_body_fields, IsBatchesList}
 use Rattle.batch_lists.proofs.BatchesSpelled.{spells-batches_list, ends-batches_list}

@@ -1,5 +1,5 @@
-use Rattle.disk_layout.specs.ManifestLaws.{manifest_decided, fault_has_offset}
-use Rattle.disk_layout.specs.ManifestSpelling.{manifest_spelling}
+use Rattle.disk_layout.proofs.ManifestLemmas.{manifest_decided, fault_has_offset}
+use Rattle.disk_layout.proofs.ManifestSpelling.{manifest_spelling}
 use Rattle.disk_layout.proofs.laws.a_manifest_is_decided.Goals as goal
 
 pub returns-clause-decided : goal.returns-clause-decided

@@ -1,4 +1,4 @@
-use Rattle.disk_layout.specs.SlotBodyLaws.{says_sequence, says_bank, says_offset, says_length}
+use Rattle.disk_layout.proofs.SlotBodyLemmas.{says_sequence, says_bank, says_offset, says_length}
 use Rattle.disk_layout.proofs.laws.a_slot_is_read_again.Goals as goal
 
 pub returns-clause-sequence : goal.returns-clause-sequence

@@ -1,5 +1,5 @@
 use Rattle.disk_layout.specs.Identity.{identity_prefix}
-use Rattle.disk_layout.specs.IdentityLaws.{identity_is_short, has_identity}
+use Rattle.disk_layout.proofs.IdentityLemmas.{identity_is_short, has_identity}
 use Rattle.disk_layout.proofs.laws.an_identity_is_read_again.Goals as goal
 
 pub returns-clause-short : goal.returns-clause-short

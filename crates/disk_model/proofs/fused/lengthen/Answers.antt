@@ -1,5 +1,5 @@
 use Rattle.std.proofs.Common.{sym}
-use Rattle.disk_model.specs.MomentLaws.{closed_joined}
+use Rattle.disk_model.proofs.MomentLemmas.{closed_joined}
 use Rattle.disk_model.proofs.fused.lengthen.Goals as goal
 
 pub keep-requires-clause-closed : goal.keep-requires-clause-closed

@@ -1,6 +1,6 @@
 use Rattle.std.proofs.Common.{◌≡◌, ◌+◌, ◌-◌, ℕ, List, drop, length, ap, ◌∙◌, arith}
 use Rattle.std.proofs.lemmas.List.{drop-replicate}
-use Rattle.disk_model.specs.RangeLaws.{held_range}
+use Rattle.disk_model.proofs.RangeLemmas.{held_range}
 use Rattle.disk_model.proofs.mem.copy_out.Goals as goal
 
 pub returns : goal.returns

@@ -1,7 +1,7 @@
 use Rattle.std.proofs.Common.{arith}
 use Rattle.std.proofs.lemmas.Grind.{common_steps}
 use Rattle.disk_model.specs.Image.{image_of}
-use Rattle.disk_model.specs.OverlayLaws.{overlay_is}
+use Rattle.disk_model.proofs.OverlayLemmas.{overlay_is}
 use Rattle.disk_model.proofs.mem.overwrite.Goals as goal
 
 pub returns-clause-ok : goal.returns-clause-ok

@@ -1,4 +1,4 @@
-use Rattle.exchange_trace.specs.FollowingLaws.{end_is_last, following_is_honest, turn_is_honest}
+use Rattle.exchange_trace.proofs.FollowingLemmas.{end_is_last, following_is_honest, turn_is_honest}
 use Rattle.exchange_trace.proofs.laws.following_a_script.Goals as goal
 
 pub returns-clause-honest : goal.returns-clause-honest

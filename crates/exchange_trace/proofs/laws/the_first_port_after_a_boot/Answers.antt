@@ -1,5 +1,5 @@
 use Rattle.exchange_trace.specs.Posts.{posted_in}
-use Rattle.exchange_trace.specs.PostLaws.{port_above_all, port_above_least, port_above_no_more}
+use Rattle.exchange_trace.proofs.PostLemmas.{port_above_all, port_above_least, port_above_no_more}
 use Rattle.exchange_trace.proofs.laws.the_first_port_after_a_boot.Goals as goal
 
 pub returns-clause-from_1024 : goal.returns-clause-from_1024

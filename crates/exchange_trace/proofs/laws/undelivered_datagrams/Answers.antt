@@ -1,5 +1,5 @@
-use Rattle.exchange_trace.specs.PostLaws.{undelivered_ascends, undelivered_grows, undelivered_shrinks}
-use Rattle.exchange_trace.specs.PostLaws.{undelivered_has}
+use Rattle.exchange_trace.proofs.PostLemmas.{undelivered_ascends, undelivered_grows, undelivered_shrinks}
+use Rattle.exchange_trace.proofs.PostLemmas.{undelivered_has}
 use Rattle.exchange_trace.proofs.laws.undelivered_datagrams.Goals as goal
 
 pub returns-clause-exact : goal.returns-clause-exact

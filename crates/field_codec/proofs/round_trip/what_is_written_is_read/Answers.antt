@@ -3,9 +3,9 @@ use Rattle.std.proofs.lemmas.List.{append-nil}
 use Rattle.field_grammar.specs.Grammar.{IsBytes}
 use Rattle.field_grammar.specs.Fields.{number, number_bytes, number_fields, raw, pad, pad_bytes, padded, padded_text, padded_fields, short, short_text, short_fields}
 use Rattle.field_grammar.specs.Spelling.{IsReadBack}
-use Rattle.field_grammar.specs.CombinedLaws.{read_back}
-use Rattle.field_grammar.specs.NumberLaws.{IsWide, wide1, wide2, wide4, wide8, spelled-number, spelled-raw}
-use Rattle.field_grammar.specs.TextLaws.{IsPaddedText, IsShortText, spelled-pad, spelled-padded, spelled-short, concat_number_fields, concat_padded_fields, concat_short_fields}
+use Rattle.field_grammar.proofs.CombinedLemmas.{read_back}
+use Rattle.field_grammar.proofs.NumberLemmas.{IsWide, wide1, wide2, wide4, wide8, spelled-number, spelled-raw}
+use Rattle.field_grammar.proofs.TextLemmas.{IsPaddedText, IsShortText, spelled-pad, spelled-padded, spelled-short, concat_number_fields, concat_padded_fields, concat_short_fields}
 use Rattle.field_codec.proofs.round_trip.what_is_written_is_read.Goals as goal
 
 number_back : (n : ℕ) → IsWide n → (value : ℕ) → value < 256 ^ n → IsReadBack (number n) (number_bytes n value) value

@@ -1,5 +1,5 @@
 use Rattle.field_grammar.specs.Fields.{raw, number, pad, padded_parts, padded, short_parts, short}
-use Rattle.field_grammar.specs.ExactLaws.{decided_at_start}
+use Rattle.field_grammar.proofs.ExactLemmas.{decided_at_start}
 use Rattle.field_grammar.proofs.fields.fields_are_decided.Goals as goal
 
 pub returns-clause-raw : goal.returns-clause-raw

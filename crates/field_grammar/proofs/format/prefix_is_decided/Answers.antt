@@ -1,4 +1,4 @@
-use Rattle.field_grammar.specs.ExactLaws.{decided_at_start}
+use Rattle.field_grammar.proofs.ExactLemmas.{decided_at_start}
 use Rattle.field_grammar.proofs.format.prefix_is_decided.Goals as goal
 
 pub returns : goal.returns

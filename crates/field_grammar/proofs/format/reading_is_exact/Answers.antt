@@ -1,5 +1,5 @@
-use Rattle.field_grammar.specs.GrammarLaws.{what_follows_is_read, what_is_read_follows, what_stops_is_refused, what_is_refused_stops}
-use Rattle.field_grammar.specs.MoveLaws.{moves_on}
+use Rattle.field_grammar.proofs.GrammarLemmas.{what_follows_is_read, what_is_read_follows, what_stops_is_refused, what_is_refused_stops}
+use Rattle.field_grammar.proofs.MoveLemmas.{moves_on}
 use Rattle.field_grammar.proofs.format.reading_is_exact.Goals as goal
 
 pub returns-clause-follows : goal.returns-clause-follows

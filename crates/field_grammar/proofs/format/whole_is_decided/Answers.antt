@@ -1,4 +1,4 @@
-use Rattle.field_grammar.specs.ExactLaws.{decided}
+use Rattle.field_grammar.proofs.ExactLemmas.{decided}
 use Rattle.field_grammar.proofs.format.whole_is_decided.Goals as goal
 
 pub returns : goal.returns

@@ -1,5 +1,5 @@
 use Rattle.std.proofs.Common.{arith, ◌∙◌}
-use Rattle.header_sections.specs.SizeLaws.{total_more, total_taken}
+use Rattle.header_sections.proofs.SizeLemmas.{total_more, total_taken}
 use Rattle.header_sections.proofs.entries.entries_size.Goals as goal
 
 pub loop-entry-preserved : goal.loop-entry-preserved

@@ -1,5 +1,5 @@
 use Rattle.std.proofs.Common.{◌≡◌, ◌+◌, ◌*◌, ◌≤◌, ◌^◌, take}
-use Rattle.header_sections.specs.SizeLaws.{total_of}
+use Rattle.header_sections.proofs.SizeLemmas.{total_of}
 use Rattle.header_sections.proofs.entries.entries_size.Given as goal
 
 abbrev pub invariant-loop-entry : goal.invariant-loop-entry

@@ -1,9 +1,9 @@
 use Rattle.std.proofs.Common.{◌++◌, length, ◌∙◌}
 use Rattle.field_grammar.specs.Fields.{number_bytes}
-use Rattle.field_grammar.specs.WrittenLaws.{entries_more}
+use Rattle.field_grammar.proofs.WrittenLemmas.{entries_more}
 use Rattle.header_sections.specs.SectionFields.{entry_fields}
-use Rattle.header_sections.specs.SizeLaws.{short_at}
-use Rattle.header_sections.specs.WrittenLaws.{begins, all_written}
+use Rattle.header_sections.proofs.SizeLemmas.{short_at}
+use Rattle.header_sections.proofs.WrittenLemmas.{begins, all_written}
 use Rattle.header_sections.proofs.entries.put_entries.Goals as goal
 
 pub loop-index-init : goal.loop-index-init

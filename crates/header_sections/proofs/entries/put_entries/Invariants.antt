@@ -1,6 +1,6 @@
 use Rattle.std.proofs.Common.{◌≡◌, ◌++◌, length}
 use Rattle.field_grammar.specs.Fields.{number_bytes}
-use Rattle.header_sections.specs.WrittenLaws.{entries_to}
+use Rattle.header_sections.proofs.WrittenLemmas.{entries_to}
 use Rattle.header_sections.proofs.entries.put_entries.Given as goal
 
 abbrev pub invariant-loop-index : goal.invariant-loop-index

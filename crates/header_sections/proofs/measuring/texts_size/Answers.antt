@@ -1,8 +1,8 @@
 use Rattle.std.proofs.Common.{arith}
 use Rattle.load_base.specs.Text.{IsText}
 use Rattle.field_grammar.specs.Fields.{padded_fields}
-use Rattle.field_grammar.specs.WrittenLaws.{all_more, all_taken}
-use Rattle.header_sections.specs.SizeLaws.{size_taken}
+use Rattle.field_grammar.proofs.WrittenLemmas.{all_more, all_taken}
+use Rattle.header_sections.proofs.SizeLemmas.{size_taken}
 use Rattle.header_sections.proofs.measuring.texts_size.Goals as goal
 
 pub loop-text-preserved : goal.loop-text-preserved

@@ -1,6 +1,6 @@
 use Rattle.std.proofs.Common.{◌≡◌, ◌-◌}
 use Rattle.field_grammar.specs.Grammar.{times, read}
-use Rattle.field_grammar.specs.LoopLaws.{with_prefix}
+use Rattle.field_grammar.proofs.LoopLemmas.{with_prefix}
 use Rattle.header_sections.specs.Sections.{text}
 use Rattle.header_sections.proofs.reading.read_texts.Given as goal
 

@@ -1,5 +1,5 @@
 use Rattle.field_grammar.specs.Fields.{padded_fields}
-use Rattle.field_grammar.specs.WrittenLaws.{written_more}
+use Rattle.field_grammar.proofs.WrittenLemmas.{written_more}
 use Rattle.header_sections.proofs.writing.put_each_text.Goals as goal
 
 pub loop-text-preserved : goal.loop-text-preserved

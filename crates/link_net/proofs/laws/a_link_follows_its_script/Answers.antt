@@ -1,4 +1,4 @@
-use Rattle.link_net.specs.FollowedLaws.{followed_at_start, followed_next, followed_post, followed_note}
+use Rattle.link_net.proofs.FollowedLemmas.{followed_at_start, followed_next, followed_post, followed_note}
 use Rattle.link_net.proofs.laws.a_link_follows_its_script.Goals as goal
 
 pub returns-clause-start : goal.returns-clause-start

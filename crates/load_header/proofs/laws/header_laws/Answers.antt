@@ -1,6 +1,6 @@
 use Rattle.std.proofs.Common.{sym, ◌∙◌}
-use Rattle.field_grammar.specs.ExactLaws.{decided, whole_one_value}
-use Rattle.field_grammar.specs.DecoderLaws.{spelling_is, spelled_by}
+use Rattle.field_grammar.proofs.ExactLemmas.{decided, whole_one_value}
+use Rattle.field_grammar.proofs.DecoderLemmas.{spelling_is, spelled_by}
 use Rattle.load_header.specs.Header.{header}
 use Rattle.load_header.specs.HeaderFields.{header_fields, IsHeader}
 use Rattle.load_header.proofs.Spelled.{spells-header}

@@ -1,6 +1,6 @@
 use Rattle.std.proofs.Common.{arith}
-use Rattle.field_grammar.specs.WrittenLaws.{all_more, all_taken}
-use Rattle.header_sections.specs.SizeLaws.{size_taken}
+use Rattle.field_grammar.proofs.WrittenLemmas.{all_more, all_taken}
+use Rattle.header_sections.proofs.SizeLemmas.{size_taken}
 use Rattle.load_header.proofs.Limits.{few_at, kinds_all}
 use Rattle.load_header.specs.Encoding.{kind_fields, IsKind}
 use Rattle.load_header.proofs.measuring.positions_size.Goals as goal

@@ -2,7 +2,7 @@ use Rattle.std.proofs.Common.{arith, rules}
 use Rattle.load_header.specs.Header.{header_view}
 use Rattle.load_header.specs.HeaderFields.{AreTexts}
 use Rattle.load_header.proofs.Limits.{few_hardware, few_kept, few_of_each, files_fit, size_type}
-use Rattle.field_grammar.specs.SectionLaws.{size_padded}
+use Rattle.field_grammar.proofs.SectionLemmas.{size_padded}
 use Rattle.load_header.proofs.measuring.sizes_of.Goals as goal
 
 pub texts_size-requires : goal.texts_size-requires

@@ -1,6 +1,6 @@
 use Rattle.std.proofs.Common.{◌≡◌, Ok, arith, length-append}
 use Rattle.field_grammar.specs.Grammar.{read}
-use Rattle.field_grammar.specs.LoopLaws.{list_goes_on}
+use Rattle.field_grammar.proofs.LoopLemmas.{list_goes_on}
 use Rattle.load_header.specs.Header.{entry_after}
 use Rattle.load_header.proofs.reading.read_entries.Goals as goal
 

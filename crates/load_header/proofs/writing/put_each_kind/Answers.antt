@@ -1,5 +1,5 @@
 use Rattle.load_header.specs.Encoding.{kind_fields}
-use Rattle.field_grammar.specs.WrittenLaws.{written_more}
+use Rattle.field_grammar.proofs.WrittenLemmas.{written_more}
 use Rattle.load_header.proofs.Limits.{few_at}
 use Rattle.load_header.proofs.writing.put_each_kind.Goals as goal
 

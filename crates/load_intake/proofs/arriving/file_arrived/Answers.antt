@@ -13,7 +13,7 @@ use Rattle.load_intake.specs.Contents.{given_of}
 use Rattle.load_intake.proofs.Accepting.{file_brings}
 use Rattle.load_intake.proofs.Filling.{gives_more}
 use Rattle.load_intake.proofs.Moving.{brings_stop, stops, types_listed}
-use Rattle.bank_store.specs.KnownLaws.{knows_on}
+use Rattle.bank_store.proofs.KnownLemmas.{knows_on}
 use Rattle.load_intake.proofs.Staying.{knows_back, room_on}
 use Rattle.load_intake.proofs.Going.{continued, ends_after, stops_there}
 use Rattle.load_intake.proofs.Rows.{file_placed, file_stopped, moved}

@@ -15,7 +15,7 @@ use Rattle.load_intake.specs.Keeping.{entries}
 use Rattle.load_intake.specs.States.{WholeView, upload_of}
 use Rattle.load_intake.proofs.Going.{ends_after, stops_after, stops_there, writes_after}
 use Rattle.load_intake.proofs.Headers.{fails_first, has_header, header_accepted, header_next, header_placed, header_stopped, need_is, passes_first, reason_is, room_for_header}
-use Rattle.bank_store.specs.KnownLaws.{knows_on}
+use Rattle.bank_store.proofs.KnownLemmas.{knows_on}
 use Rattle.load_intake.proofs.arriving.header_read.Goals as goal
 
 pub returns-in-Some-clause-row : goal.returns-in-Some-clause-row

@@ -2,10 +2,10 @@ use Rattle.std.proofs.Common.{◌+◌, Ok, subst, arith, rules}
 use Rattle.std.proofs.lemmas.List.{length-map}
 use Rattle.disk_layout.specs.Manifest.{entry_view}
 use Rattle.bank_store.specs.Given.{Given}
-use Rattle.bank_store.specs.KnownLaws.{knows_on}
+use Rattle.bank_store.proofs.KnownLemmas.{knows_on}
 use Rattle.session_rules.specs.KeptLoads.{types_of}
 use Rattle.load_intake.specs.declared.down.Down.{Down}
-use Rattle.load_intake.specs.Contents.{Gives}
+use Rattle.load_intake.specs.Contents.{GivesContents}
 use Rattle.load_intake.specs.Keeping.{entries}
 use Rattle.load_intake.proofs.Filling.{gives_fails}
 use Rattle.load_intake.proofs.Going.{then_on}
@@ -44,5 +44,5 @@ loop-load-preserved g c =
 pub returns-clause-gives : goal.returns-clause-gives
 returns-clause-gives g c = λ s given is.
     let was = c.loop-load.invariant in
-    subst (λ (y : Given). Gives {T = Unit {0}} {E = Down} (g.K.Disk.state c.args.disk.now) c.loop-load.store (g.K.Disk.state c.loop-load.disk) s y (Ok tt))
+    subst (λ (y : Given). GivesContents {T = Unit {0}} {E = Down} (g.K.Disk.state c.args.disk.now) c.loop-load.store (g.K.Disk.state c.loop-load.disk) s y (Ok tt))
     (all_given c.args.store.now (g.K.Disk.state c.args.disk.now) s given (types_of (entries c.args.new.now)) c.args.active.now c.loop-load.load-index c.requires.active (omega (arith, c.loop-load-test.false)) is) (was.gives s given is)

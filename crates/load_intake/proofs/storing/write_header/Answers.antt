@@ -5,7 +5,7 @@ use Rattle.load_header.specs.Header.{header_view}
 use Rattle.session_rules.specs.Uploads.{files_of}
 use Rattle.bank_store.specs.Given.{with_bytes, with_file, with_load}
 use Rattle.load_intake.specs.declared.down.Down.{Down}
-use Rattle.load_intake.specs.Contents.{Gives}
+use Rattle.load_intake.specs.Contents.{GivesContents}
 use Rattle.load_intake.proofs.Filling.{gives_fails, gives_more}
 use Rattle.load_intake.proofs.Going.{continued, then_on}
 use Rattle.load_intake.proofs.Sizes.{total_more}
@@ -52,6 +52,6 @@ returns-clause-gives g c = λ s given is.
     let begun = gives_more c.args.store.now c.start_load.new.store (g.K.Disk.state c.args.disk.now) s given _ c.start_load.ensures.continues (λ image has. c.start_load.ensures.given image given has) is in
     let wrote = c.in_ok-append.ensures.gives s _ begun in
     let ended = gives_more c.append.new.store c.end_file.new.store (g.K.Disk.state c.append.new.disk) s _ _ c.end_file.ensures.continues (λ image has. c.end_file.ensures.given image _ has) wrote.ok in
-    subst (λ (part : List ℕ). Gives {E = Down} (g.K.Disk.state c.args.disk.now) c.end_file.new.store (g.K.Disk.state c.append.new.disk) s (with_file c.args.wanted.now.header (with_bytes c.args.bytes.now (with_load part c.args.header.now.type_id (n + 1) given))) (Ok tt)) c.text.ensures
-    (subst (λ (k : ℕ). Gives {E = Down} (g.K.Disk.state c.args.disk.now) c.end_file.new.store (g.K.Disk.state c.append.new.disk) s (with_file c.args.wanted.now.header (with_bytes c.args.bytes.now (with_load c.text.result c.args.header.now.type_id k given))) (Ok tt)) few
+    subst (λ (part : List ℕ). GivesContents {E = Down} (g.K.Disk.state c.args.disk.now) c.end_file.new.store (g.K.Disk.state c.append.new.disk) s (with_file c.args.wanted.now.header (with_bytes c.args.bytes.now (with_load part c.args.header.now.type_id (n + 1) given))) (Ok tt)) c.text.ensures
+    (subst (λ (k : ℕ). GivesContents {E = Down} (g.K.Disk.state c.args.disk.now) c.end_file.new.store (g.K.Disk.state c.append.new.disk) s (with_file c.args.wanted.now.header (with_bytes c.args.bytes.now (with_load c.text.result c.args.header.now.type_id k given))) (Ok tt)) few
     (record { adds = wrote.adds; ok = ended }))

@@ -1,5 +1,5 @@
 use Rattle.std.proofs.Common.{arith}
-use Rattle.field_grammar.specs.DecoderLaws.{refused, faulty}
+use Rattle.field_grammar.proofs.DecoderLemmas.{refused, faulty}
 use Rattle.load_protocol_files.specs.declared.fault.FileFault.TheVariants.{Memory}
 use Rattle.load_protocol_files.specs.Files.{file}
 use Rattle.load_protocol_files.proofs.FileSpellings.{file_found, file_only}

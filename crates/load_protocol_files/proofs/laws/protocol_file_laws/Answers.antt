@@ -4,11 +4,11 @@ use Rattle.load_protocol_files.specs.Lcs.{lcs_body, lcs_fields, LcsFits}
 use Rattle.load_protocol_files.specs.Lui.{lui_body, lui_fields, LuiFits}
 use Rattle.load_protocol_files.specs.Lur.{lur_body, lur_fields, LurFits}
 use Rattle.load_protocol_files.specs.Lus.{lus_body, lus_fields, LusFits}
-use Rattle.load_protocol_files.specs.ReplyLaws.{spelled-lci, spelled-lui}
-use Rattle.load_protocol_files.specs.LclLaws.{spelled-lcl}
-use Rattle.load_protocol_files.specs.LcsLaws.{spelled-lcs}
-use Rattle.load_protocol_files.specs.LurLaws.{spelled-lur}
-use Rattle.load_protocol_files.specs.LusLaws.{spelled-lus}
+use Rattle.load_protocol_files.specs.Laws.Replies.{spelled-lci, spelled-lui}
+use Rattle.load_protocol_files.specs.Laws.Lcl.{spelled-lcl}
+use Rattle.load_protocol_files.specs.Laws.Lcs.{spelled-lcs}
+use Rattle.load_protocol_files.specs.Laws.Lur.{spelled-lur}
+use Rattle.load_protocol_files.specs.Laws.Lus.{spelled-lus}
 use Rattle.load_protocol_files.proofs.FileSpellings.{exact_of}
 use Rattle.load_protocol_files.proofs.laws.protocol_file_laws.Goals as goal
 

@@ -1,7 +1,7 @@
 use Rattle.std.proofs.Common.{◌≡◌, ◌-◌}
 use Rattle.std.specs.Prelude.{map}
 use Rattle.field_grammar.specs.Grammar.{times, read}
-use Rattle.field_grammar.specs.LoopLaws.{with_prefix}
+use Rattle.field_grammar.proofs.LoopLemmas.{with_prefix}
 use Rattle.load_protocol_files.specs.Lcl.{hardware, hardware_view}
 use Rattle.load_protocol_files.proofs.lcl.hardware_list_of.Given as goal
 

@@ -1,6 +1,6 @@
 use Rattle.std.proofs.Common.{◌≡◌, ◌-◌}
 use Rattle.field_grammar.specs.Grammar.{times, read}
-use Rattle.field_grammar.specs.LoopLaws.{with_prefix}
+use Rattle.field_grammar.proofs.LoopLemmas.{with_prefix}
 use Rattle.load_protocol_files.specs.Lcl.{installed}
 use Rattle.load_protocol_files.proofs.lcl.parts_of.Given as goal
 

@@ -2,7 +2,7 @@ use Rattle.std.proofs.Common.{◌≤◌, length, sym, subst}
 use Rattle.std.proofs.lemmas.List.Elements.{All-more, All-get_or}
 use Rattle.load_protocol_files.specs.declared.lcl.Hardware.{Hardware}
 use Rattle.load_protocol_files.specs.Lcl.{hardware_fields, hardware_view, HardwareFits}
-use Rattle.field_grammar.specs.WrittenLaws.{written_more_seen}
+use Rattle.field_grammar.proofs.WrittenLemmas.{written_more_seen}
 use Rattle.load_protocol_files.proofs.lcl.put_hardware_list.Goals as goal
 
 pub put_hardware-requires : goal.put_hardware-requires

@@ -2,7 +2,7 @@ use Rattle.std.proofs.Common.{subst}
 use Rattle.std.proofs.lemmas.List.Elements.{All-more}
 use Rattle.load_protocol_files.specs.declared.lcl.Part.{Part}
 use Rattle.load_protocol_files.specs.Lcl.{installed_fields, InstalledFits}
-use Rattle.field_grammar.specs.WrittenLaws.{written_more}
+use Rattle.field_grammar.proofs.WrittenLemmas.{written_more}
 use Rattle.load_protocol_files.proofs.lcl.put_parts.Goals as goal
 
 pub loop-part-preserved : goal.loop-part-preserved

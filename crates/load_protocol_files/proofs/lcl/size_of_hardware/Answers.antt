@@ -2,7 +2,7 @@ use Rattle.std.proofs.Common.{List, length, ap, arith}
 use Rattle.std.specs.List.{concat, flat_map}
 use Rattle.load_protocol_files.specs.declared.lcl.Part.{Part}
 use Rattle.load_protocol_files.specs.Lcl.{hardware_view, installed_fields}
-use Rattle.load_protocol_files.specs.LclLaws.{hardware_size}
+use Rattle.load_protocol_files.specs.Laws.Lcl.{hardware_size}
 use Rattle.load_protocol_files.proofs.lcl.size_of_hardware.Goals as goal
 
 pub returns : goal.returns

@@ -1,5 +1,5 @@
 use Rattle.std.proofs.Common.{arith}
-use Rattle.load_protocol_files.specs.LclLaws.{hardware_more}
+use Rattle.load_protocol_files.specs.Laws.Lcl.{hardware_more}
 use Rattle.load_protocol_files.proofs.lcl.size_of_list.Goals as goal
 
 pub loop-hardware-preserved : goal.loop-hardware-preserved

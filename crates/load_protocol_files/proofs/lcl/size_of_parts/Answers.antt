@@ -1,5 +1,5 @@
 use Rattle.std.proofs.Common.{arith}
-use Rattle.load_protocol_files.specs.LclLaws.{parts_more}
+use Rattle.load_protocol_files.specs.Laws.Lcl.{parts_more}
 use Rattle.load_protocol_files.proofs.lcl.size_of_parts.Goals as goal
 
 pub loop-part-preserved : goal.loop-part-preserved

@@ -2,7 +2,7 @@ use Rattle.std.proofs.Common.{subst}
 use Rattle.std.proofs.lemmas.List.Elements.{All-more}
 use Rattle.load_protocol_files.specs.declared.lur.Wanted.{Wanted}
 use Rattle.load_protocol_files.specs.Lur.{wanted_fields, WantedFits}
-use Rattle.field_grammar.specs.WrittenLaws.{written_more}
+use Rattle.field_grammar.proofs.WrittenLemmas.{written_more}
 use Rattle.load_protocol_files.proofs.lur.put_loads.Goals as goal
 
 pub loop-load-preserved : goal.loop-load-preserved

@@ -2,7 +2,7 @@ use Rattle.std.proofs.Common.{◌≤◌, sym, subst}
 use Rattle.std.proofs.lemmas.List.Elements.{All-more, All-get_or}
 use Rattle.load_protocol_files.specs.declared.lus.LoadStatus.{LoadStatus}
 use Rattle.load_protocol_files.specs.Lus.{load_status_fields, LoadStatusFits}
-use Rattle.field_grammar.specs.WrittenLaws.{written_more}
+use Rattle.field_grammar.proofs.WrittenLemmas.{written_more}
 use Rattle.load_protocol_files.proofs.lus.put_loads.Goals as goal
 
 pub loop-load-preserved : goal.loop-load-preserved

@@ -1,7 +1,7 @@
 use Rattle.std.proofs.Common.{Some}
 use Rattle.std.proofs.lemmas.Result.{IfOk-weaker}
 use Rattle.loader_cli.specs.Builds.{IsNameSaid, IsNameBuilt}
-use Rattle.loader_cli.specs.Builds.Builds.{recipe_read}
+use Rattle.loader_cli.specs.Builds.BuildsFolder.{recipe_read}
 use Rattle.loader_cli.specs.HostFiles.{HostWork}
 use Rattle.loader_cli.proofs.Built.{bytes_since}
 use Rattle.loader_cli.proofs.OtherFiles.{sets_more}

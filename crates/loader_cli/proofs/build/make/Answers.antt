@@ -4,7 +4,7 @@ use Rattle.media_build.specs.NoFindings.{built_view}
 use Rattle.media_build.specs.RecipeSets.{BuiltView}
 use Rattle.media_build.specs.WrittenFolders.{IsNameIn}
 use Rattle.loader_cli.specs.Builds.{IsNameMade}
-use Rattle.loader_cli.specs.Builds.Makes.{set_made}
+use Rattle.loader_cli.specs.Builds.MakesFolder.{set_made}
 use Rattle.loader_cli.proofs.OtherFiles.{sets_more}
 use Rattle.loader_cli.proofs.build.make.Goals as goal
 

@@ -1,4 +1,4 @@
-use Rattle.loader_cli.specs.FixedOutputs.{Gives}
+use Rattle.loader_cli.specs.FixedOutputs.{ReplayGives}
 use Rattle.loader_cli.proofs.OneOutput.{one_output_given, put_the_same, puts_only}
 use Rattle.loader_cli.proofs.laws.a_replay_is_fixed_by_its_inputs.Goals as goal
 
@@ -19,5 +19,5 @@ returns-clause-one g c =
 pub returns-clause-same : goal.returns-clause-same
 returns-clause-same g c =
     λ one two first second told folder name files image is is_2.
-    put_the_same (Gives told folder name files image) (returns-clause-one g c told folder name files image) _ _ first second (returns-clause-puts g c one first told folder name files image is)
+    put_the_same (ReplayGives told folder name files image) (returns-clause-one g c told folder name files image) _ _ first second (returns-clause-puts g c one first told folder name files image is)
     (returns-clause-puts g c two second told folder name files image is_2)

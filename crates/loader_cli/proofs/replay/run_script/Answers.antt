@@ -7,7 +7,7 @@ use Rattle.accept_rules.specs.Permissions.{permits}
 use Rattle.disk_model.specs.Image.{Image}
 use Rattle.bank_store.specs.Fits.{LosesOnlyWork}
 use Rattle.disk_layout.specs.Holds.{HoldsConfig, StandingView}
-use Rattle.upload_replay.specs.Drives.{IsRun, NeverBoots}
+use Rattle.upload_replay.specs.Drives.{IsDrivenRun, NeverBoots}
 use Rattle.upload_replay.specs.declared.outcome.DriveFault.TheVariants.{Disk, Link}
 use Rattle.loader_cli.specs.Replays.{CountsPower, IsAnyRun, IsScriptRun, RunsScript, RunsTo, run_seen, setting_of}
 use Rattle.loader_cli.specs.Replays.RunsTo.{disk_failed}
@@ -24,7 +24,7 @@ returns-in-Ok-clause-runs g c =
     let new = g.K.Disk.state c.drive.new.disk in
     let is : (start : StandingView) (image : Image) → old.reads ≡ Some image → HoldsConfig image start → NeverBoots (steps_of run.trace.items) ⊎ LosesOnlyWork old → IsScriptRun set c.args.script start (run_seen run)
     = λ start image told holds all. script_run set c.args.script start (run_seen run) c.drive.new.link c.can_be_told.ensures (c.what_a_disk_holds_can_be_listed.ensures.fits image start holds) c.in-Ok.ensures.ended.ordered
-    (subst (λ (began : LinkState). IsRun (setting_of set start) began c.drive.new.link (steps_of run.trace.items) (run_seen run).sessions (run_seen run).standing) c.new-link.ensures
+    (subst (λ (began : LinkState). IsDrivenRun (setting_of set start) began c.drive.new.link (steps_of run.trace.items) (run_seen run).sessions (run_seen run).standing) c.new-link.ensures
     (c.in-Ok.ensures.run (setting_of set start) image (record { media = refl; accepts = λ fields kept answer said. said.says ∙ ap (λ h. permits h kept) said.same; start = holds }) told all)) in
     let began : c.new-link.result.given ≡ [] = ap (λ (l : LinkState). l.given) c.new-link.ensures in
     let counts : CountsPower (steps_of run.trace.items) old new

@@ -3,8 +3,8 @@ use Rattle.std.proofs.lemmas.Result.{IfOk-weaker}
 use Rattle.loader_cli.specs.Answers.{status_of}
 use Rattle.loader_cli.specs.Builds.{IsNameBuilt, IsNameMade}
 use Rattle.loader_cli.specs.Commands.CommandView.{build, check, list, make, replay, show, trial, wire}
-use Rattle.loader_cli.specs.Runs.{IsWritten}
-use Rattle.loader_cli.specs.Runs.IsWritten.{built, made}
+use Rattle.loader_cli.specs.Runs.{IsWrittenName}
+use Rattle.loader_cli.specs.Runs.IsWrittenName.{built, made}
 use Rattle.loader_cli.specs.Runs.Says.{builds, checks, formats, lists, makes, replays, rolls_back, shows, traces, tries}
 use Rattle.loader_cli.proofs.Left.{reads_leave, untouched_leaves}
 use Rattle.loader_cli.proofs.OtherFiles.{sets_more}
@@ -209,7 +209,7 @@ returns-in-Build-clause-host g c =
     let recipe = c.in-Build.recipe.now in
     let folder = c.in-Build.folder.now in
     host_written words c.args.host.now c.build.new.host (g.H.Host.files c.args.host.now) (g.H.Host.files c.build.new.host) (build c.in-Build.recipe.now c.in-Build.folder.now) command tt tt
-    (sets_more (λ told. IsNameBuilt recipe folder told) (λ told. IsWritten words told) (g.H.Host.files c.args.host.now) (g.H.Host.files c.args.host.now) (g.H.Host.files c.build.new.host) refl (λ told is name one. built recipe folder command one) c.build.ensures.others)
+    (sets_more (λ told. IsNameBuilt recipe folder told) (λ told. IsWrittenName words told) (g.H.Host.files c.args.host.now) (g.H.Host.files c.args.host.now) (g.H.Host.files c.build.new.host) refl (λ told is name one. built recipe folder command one) c.build.ensures.others)
 
 pub returns-in-Make-clause-host : goal.returns-in-Make-clause-host
 returns-in-Make-clause-host g c =
@@ -218,7 +218,7 @@ returns-in-Make-clause-host g c =
     let number = c.in-Make.number in
     let folder = c.in-Make.folder.now in
     host_written words c.args.host.now c.make.new.host (g.H.Host.files c.args.host.now) (g.H.Host.files c.make.new.host) (make c.in-Make.number c.in-Make.folder.now) command tt tt
-    (sets_more (λ told. IsNameMade number folder) (λ told. IsWritten words told) (g.H.Host.files c.args.host.now) (g.H.Host.files c.args.host.now) (g.H.Host.files c.make.new.host) refl (λ told is name one. made number folder command one) c.make.ensures.others)
+    (sets_more (λ told. IsNameMade number folder) (λ told. IsWrittenName words told) (g.H.Host.files c.args.host.now) (g.H.Host.files c.args.host.now) (g.H.Host.files c.make.new.host) refl (λ told is name one. made number folder command one) c.make.ensures.others)
 
 pub returns-in-Replay-clause-host : goal.returns-in-Replay-clause-host
 returns-in-Replay-clause-host g c =

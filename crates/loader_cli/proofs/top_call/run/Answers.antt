@@ -8,7 +8,7 @@ use Rattle.loader_cli.specs.FleetReplays.{fleet_seen}
 use Rattle.loader_cli.specs.FleetRuns.FleetEnds.{as_it_was_put as fleet_put, in_command as fleet_out, sink_failed as fleet_sink_failed, told as fleet_told}
 use Rattle.loader_cli.specs.Replays.{run_seen}
 use Rattle.loader_cli.specs.Runs.Ends.{no_memory, sink_failed, told}
-use Rattle.loader_cli.specs.Runs.RunsOutOfMemory.{as_it_was_put, in_command}
+use Rattle.loader_cli.specs.Runs.CommandRunsOut.{as_it_was_put, in_command}
 use Rattle.loader_cli.proofs.FleetAnswered.{nothing_handed, same_taken, with_run}
 use Rattle.loader_cli.proofs.FleetPromised.{fleet_promised}
 use Rattle.loader_cli.proofs.OneOutput.{ImageLaws}

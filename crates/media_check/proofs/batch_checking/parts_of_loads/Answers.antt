@@ -18,6 +18,6 @@ loop-load-preserved c =
     let load = c.load-item.result in
     let within : c.loop-load.load-index < length c.args.loads.now = omega arith in
     let more = mapped_more load_entry_view c.args.loads.now c.loop-load.load-index load within c.load-item.is in
-    c.in_ok-insert.ensures.updates.0 part ∙ ap (λ (key : List ℕ). cond (same_bytes key part) true (contains same_bytes c.loop-load.parts part)) c.of.ensures ∙ ap (λ b. cond (same_bytes load.part part) true b) (c.loop-load.invariant part)
+    c.in_ok-insert.ensures.updates.0 part ∙ ap (λ b. cond (same_bytes load.part part) true b) (c.loop-load.invariant part)
     ∙ sym (parts_more part (map load_entry_view (take c.loop-load.load-index c.args.loads.now)) (load_entry_view load))
     ∙ ap (λ (loads : List LoadEntryView). is_part_of loads part) (sym more)

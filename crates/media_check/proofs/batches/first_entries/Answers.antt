@@ -18,6 +18,6 @@ loop-left-preserved c =
           λ part.
           let old = lookup (same_bytes part) c.loop-left.first.entries in
           first_more entries i c.index-entries-left.result part old (lookup (same_bytes part) c.insert.new.self.entries) within c.index-entries-left.is
-          (c.in_ok-insert.ensures.updates.0 part ∙ ap (λ (key : List ℕ). cond (same_bytes key part) (Some i) old) (c.of.ensures ∙ ap (λ (e : BatchEntry). e.part) (sym c.index-entries-left.is)))
+          (c.in_ok-insert.ensures.updates.0 part ∙ ap (λ (key : List ℕ). cond (same_bytes key part) (Some i) old) (c.text.ensures ∙ ap (λ (e : BatchEntry). e.part) (sym c.index-entries-left.is)))
           (subst (λ (n : ℕ). entry_at entries old ≡ first_batch part (drop n entries)) next (c.loop-left.invariant.first part));
     }

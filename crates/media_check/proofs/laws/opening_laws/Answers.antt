@@ -1,4 +1,4 @@
-use Rattle.media_check.specs.OpeningLaws.{not_too_long, not_too_large}
+use Rattle.media_check.proofs.OpeningLemmas.{not_too_long, not_too_large}
 use Rattle.media_check.proofs.laws.opening_laws.Goals as goal
 
 pub returns-clause-not_too_long : goal.returns-clause-not_too_long

@@ -1,9 +1,9 @@
 use Rattle.std.proofs.Common.{arith, ◌∙◌}
 use Rattle.media_lists.specs.Files.{files_list_view, file_body_fields}
-use Rattle.part_number.specs.VerdictLaws.{part_size}
+use Rattle.part_number.proofs.VerdictLemmas.{part_size}
 use Rattle.media_lists.proofs.Fits.{all_fit}
-use Rattle.media_lists.specs.SizeLaws.{whole_size}
-use Rattle.media_lists.specs.WrittenLaws.{sections_written, covered_written, list_written}
+use Rattle.media_lists.proofs.SizeLemmas.{whole_size}
+use Rattle.media_lists.proofs.WrittenLemmas.{sections_written, covered_written, list_written}
 use Rattle.media_lists.proofs.encoding.files_bytes.Goals as goal
 
 pub entries_size-entries-requires-clause-each : goal.entries_size-entries-requires-clause-each

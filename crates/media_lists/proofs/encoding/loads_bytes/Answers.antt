@@ -2,11 +2,11 @@ use Rattle.std.proofs.Common.{List, ℕ, ◌++◌, arith, ap, sym, ◌∙◌}
 use Rattle.std.specs.List.{concat}
 use Rattle.field_grammar.specs.Spelling.{spelled_length}
 use Rattle.media_lists.specs.Loads.{load_entry_view, loads_list_view, load_body_fields}
-use Rattle.part_number.specs.VerdictLaws.{part_size}
+use Rattle.part_number.proofs.VerdictLemmas.{part_size}
 use Rattle.media_lists.proofs.Fits.{few_hardware}
 use Rattle.media_lists.proofs.Seen.{entries_seen, distances_seen}
-use Rattle.media_lists.specs.SizeLaws.{whole_size}
-use Rattle.media_lists.specs.WrittenLaws.{sections_written, covered_written, list_written}
+use Rattle.media_lists.proofs.SizeLemmas.{whole_size}
+use Rattle.media_lists.proofs.WrittenLemmas.{sections_written, covered_written, list_written}
 use Rattle.media_lists.proofs.encoding.loads_bytes.Goals as goal
 
 pub entries_size-entries-requires-clause-each : goal.entries_size-entries-requires-clause-each

@@ -1,8 +1,8 @@
 use Rattle.std.proofs.Common.{rules, arith}
 use Rattle.media_lists.specs.Loads.{load_entry_view, load_body_fields, kept_fields, IsListedLoad}
-use Rattle.header_sections.specs.SizeLaws.{short_at}
+use Rattle.header_sections.proofs.SizeLemmas.{short_at}
 use Rattle.media_lists.proofs.Seen.{each_seen, each_unseen, distances_seen, distances_unseen}
-use Rattle.field_grammar.specs.WrittenLaws.{all_taken}
+use Rattle.field_grammar.proofs.WrittenLemmas.{all_taken}
 use Rattle.media_lists.proofs.Fits.{true_or_false, each_at, distances_from}
 use Rattle.media_lists.proofs.fitting.are_loads.Goals as goal
 

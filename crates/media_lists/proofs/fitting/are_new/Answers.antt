@@ -1,6 +1,6 @@
 use Rattle.std.proofs.Common.{rules, take, ap, sym, ◌∙◌, ◌++◌, ◌∷◌, []}
 use Rattle.std.proofs.lemmas.List.{take_more}
-use Rattle.media_lists.specs.FitLaws.{order_pushed}
+use Rattle.media_lists.proofs.FitLemmas.{order_pushed}
 use Rattle.media_lists.proofs.Fits.{new_refused, new_kept}
 use Rattle.media_lists.proofs.fitting.are_new.Goals as goal
 

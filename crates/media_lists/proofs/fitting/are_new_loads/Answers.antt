@@ -4,7 +4,7 @@ use Rattle.std.proofs.lemmas.List.{take_more, map-append}
 use Rattle.media_lists.specs.Loads.{load_entry_view, load_name}
 use Rattle.media_lists.specs.declared.lists.LoadEntry.{LoadEntry}
 use Rattle.media_lists.proofs.Fits.{refused_seen, kept_seen}
-use Rattle.media_lists.specs.FitLaws.{order_pushed}
+use Rattle.media_lists.proofs.FitLemmas.{order_pushed}
 use Rattle.media_lists.proofs.fitting.are_new_loads.Goals as goal
 
 pub returns-then-not-is_new_load : goal.returns-then-not-is_new_load

@@ -1,6 +1,6 @@
 use Rattle.std.proofs.Common.{rules, arith}
 use Rattle.media_lists.specs.Files.{files_list_view, file_name, file_body_fields, IsListedFile}
-use Rattle.media_lists.specs.FitLaws.{list_tells}
+use Rattle.media_lists.proofs.FitLemmas.{list_tells}
 use Rattle.media_lists.proofs.Fits.{all_fit}
 use Rattle.media_lists.proofs.fitting.files_fit.Goals as goal
 

@@ -1,6 +1,6 @@
 use Rattle.std.proofs.Common.{sym, ◌∙◌, rules}
 use Rattle.media_lists.proofs.Fits.{some_or_none}
-use Rattle.media_lists.proofs.PathLaws.{is_path, has_no_fault}
+use Rattle.media_lists.proofs.PathLemmas.{is_path, has_no_fault}
 use Rattle.media_lists.proofs.fitting.is_path.Goals as goal
 
 pub returns-in-None : goal.returns-in-None

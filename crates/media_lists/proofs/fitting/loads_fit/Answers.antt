@@ -1,7 +1,7 @@
 use Rattle.std.proofs.Common.{rules, ap, sym, ◌∙◌, List, ℕ}
 use Rattle.field_grammar.specs.Spelling.{spelled_length}
 use Rattle.media_lists.specs.Loads.{load_entry_view, loads_list_view, load_name, load_body_fields, IsListedLoad}
-use Rattle.media_lists.specs.FitLaws.{list_tells}
+use Rattle.media_lists.proofs.FitLemmas.{list_tells}
 use Rattle.media_lists.proofs.Fits.{few_hardware}
 use Rattle.media_lists.proofs.Seen.{entries_seen}
 use Rattle.media_lists.proofs.fitting.loads_fit.Goals as goal

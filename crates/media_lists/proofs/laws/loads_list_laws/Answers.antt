@@ -1,6 +1,6 @@
 use Rattle.std.proofs.Common.{sym, ◌∙◌}
-use Rattle.field_grammar.specs.ExactLaws.{decided, whole_one_value}
-use Rattle.field_grammar.specs.DecoderLaws.{spelling_is, spelled_by}
+use Rattle.field_grammar.proofs.ExactLemmas.{decided, whole_one_value}
+use Rattle.field_grammar.proofs.DecoderLemmas.{spelling_is, spelled_by}
 use Rattle.media_lists.specs.ListFields.{list_fields}
 use Rattle.media_lists.specs.Loads.{loads_list, load_body_fields, IsLoadsList}
 use Rattle.media_lists.proofs.Whole.{spells-loads_list, ends-loads_list}

@@ -1,4 +1,4 @@
-use Rattle.media_lists.proofs.PathLaws.{is_path, has_no_fault}
+use Rattle.media_lists.proofs.PathLemmas.{is_path, has_no_fault}
 use Rattle.media_lists.proofs.PathPrefixes.{is_longest_prefix}
 use Rattle.media_lists.proofs.laws.path_laws.Goals as goal
 

@@ -1,5 +1,5 @@
 use Rattle.std.proofs.Common.{sym, ◌∙◌}
-use Rattle.media_lists.proofs.PathLaws.{is_path}
+use Rattle.media_lists.proofs.PathLemmas.{is_path}
 use Rattle.media_lists.proofs.paths.path_of.Goals as goal
 
 pub path_text-requires : goal.path_text-requires

@@ -1,8 +1,8 @@
 use Rattle.std.proofs.Common.{arith, length-append}
-use Rattle.field_grammar.specs.LoopLaws.{list_goes_on}
+use Rattle.field_grammar.proofs.LoopLemmas.{list_goes_on}
 use Rattle.media_lists.specs.Entries.{entry_after}
 use Rattle.media_lists.specs.Files.{file_body, file_name}
-use Rattle.media_lists.specs.FitLaws.{order_pushed}
+use Rattle.media_lists.proofs.FitLemmas.{order_pushed}
 use Rattle.media_lists.proofs.reading_files.read_so_many_files.Goals as goal
 
 pub loop-preserved : goal.loop-preserved

@@ -1,10 +1,10 @@
 use Rattle.std.proofs.Common.{List, [], ◌∷◌, ap, ◌∙◌, arith, length-append}
 use Rattle.std.specs.Prelude.{map}
 use Rattle.std.proofs.lemmas.List.{map-append}
-use Rattle.field_grammar.specs.LoopLaws.{list_goes_on_seen}
+use Rattle.field_grammar.proofs.LoopLemmas.{list_goes_on_seen}
 use Rattle.media_lists.specs.Entries.{entry_after}
 use Rattle.media_lists.specs.Loads.{load_body, load_name, load_entry_view}
-use Rattle.media_lists.specs.FitLaws.{order_pushed}
+use Rattle.media_lists.proofs.FitLemmas.{order_pushed}
 use Rattle.media_lists.proofs.reading_loads.read_so_many_loads.Goals as goal
 
 pub loop-preserved : goal.loop-preserved

@@ -1,7 +1,7 @@
 use Rattle.std.proofs.Common.{List, ℕ, subst}
 use Rattle.part_number.specs.PartNumber.{IsPartFault, maker_of, product_of}
 use Rattle.part_number.proofs.Faults.{no_fault}
-use Rattle.part_number.specs.Laws.Texts.{size_of_part}
+use Rattle.part_number.proofs.Texts.{size_of_part}
 use Rattle.part_number.proofs.PartNumber.read.Goals as goal
 
 pub returns-in_default-clause-each_is_read : goal.returns-in_default-clause-each_is_read

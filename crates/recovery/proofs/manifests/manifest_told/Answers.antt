@@ -1,5 +1,5 @@
 use Rattle.disk_layout.specs.Manifest.{RefusesManifestBytes, manifest_view}
-use Rattle.disk_layout.specs.ManifestLaws.{manifest_decided}
+use Rattle.disk_layout.proofs.ManifestLemmas.{manifest_decided}
 use Rattle.disk_layout.specs.declared.manifest.ManifestFault.TheVariants.{Wrong}
 use Rattle.recovery.proofs.manifests.manifest_told.Goals as goal
 

@@ -1,6 +1,6 @@
-use Rattle.session_rules.specs.ReadFileLaws.{requests_are_spelled}
-use Rattle.session_rules.specs.SoundLogLaws.{payloads_are_bytes}
-use Rattle.session_rules.specs.SoundnessLaws.{headers_are_spelled}
+use Rattle.session_rules.proofs.ReadFileLemmas.{requests_are_spelled}
+use Rattle.session_rules.proofs.SoundLogLemmas.{payloads_are_bytes}
+use Rattle.session_rules.proofs.SoundnessLemmas.{headers_are_spelled}
 use Rattle.replay_rules.proofs.AskedFor.{installs_are_asked, requests_are_read}
 use Rattle.replay_rules.proofs.Counted.{completed_stays}
 use Rattle.replay_rules.proofs.OwnSession.{completed_in_session}

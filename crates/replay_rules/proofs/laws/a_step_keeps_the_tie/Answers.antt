@@ -1,4 +1,4 @@
-use Rattle.replay_rules.specs.TieLaws.{step_keeps_tie}
+use Rattle.replay_rules.proofs.TieLemmas.{step_keeps_tie}
 use Rattle.replay_rules.proofs.laws.a_step_keeps_the_tie.Goals as goal
 
 pub returns : goal.returns

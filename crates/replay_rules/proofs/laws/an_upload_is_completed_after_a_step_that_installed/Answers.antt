@@ -1,4 +1,4 @@
-use Rattle.session_rules.specs.SoundLogLaws.{payloads_are_bytes}
+use Rattle.session_rules.proofs.SoundLogLemmas.{payloads_are_bytes}
 use Rattle.replay_rules.proofs.ToldTraces.{completed_was_brought, statuses_are_spelled, target_tells_in_time}
 use Rattle.replay_rules.proofs.laws.an_upload_is_completed_after_a_step_that_installed.Goals as goal
 

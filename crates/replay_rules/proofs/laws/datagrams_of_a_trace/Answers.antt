@@ -1,4 +1,4 @@
-use Rattle.replay_rules.specs.PlacedTraceLaws.{due_is_placed, due_is_two_at_most, ports_rise}
+use Rattle.replay_rules.proofs.PlacedTraceLemmas.{due_is_placed, due_is_two_at_most, ports_rise}
 use Rattle.replay_rules.proofs.laws.datagrams_of_a_trace.Goals as goal
 
 pub returns-clause-placed : goal.returns-clause-placed

@@ -1,6 +1,6 @@
-use Rattle.session_rules.specs.ReadFileLaws.{requests_are_spelled}
-use Rattle.session_rules.specs.SoundLogLaws.{payloads_are_bytes}
-use Rattle.session_rules.specs.SoundnessLaws.{headers_are_spelled}
+use Rattle.session_rules.proofs.ReadFileLemmas.{requests_are_spelled}
+use Rattle.session_rules.proofs.SoundLogLemmas.{payloads_are_bytes}
+use Rattle.session_rules.proofs.SoundnessLemmas.{headers_are_spelled}
 use Rattle.replay_rules.proofs.Outcomes.{denials_are_for_sequence, files_are_good, stops_are_for_verdicts}
 use Rattle.replay_rules.proofs.laws.outcomes_have_their_causes.Goals as goal
 

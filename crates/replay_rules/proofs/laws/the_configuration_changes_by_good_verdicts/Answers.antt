@@ -1,7 +1,7 @@
-use Rattle.session_rules.specs.SoundnessLaws.{headers_are_spelled}
-use Rattle.session_rules.specs.SoundLogLaws.{payloads_are_bytes}
-use Rattle.replay_rules.specs.ChangeLaws.{changes_are_new, installs_are_good}
-use Rattle.replay_rules.proofs.FirstOrGoodLaws.{active_is_first_or_good}
+use Rattle.session_rules.proofs.SoundnessLemmas.{headers_are_spelled}
+use Rattle.session_rules.proofs.SoundLogLemmas.{payloads_are_bytes}
+use Rattle.replay_rules.proofs.ChangeLemmas.{changes_are_new, installs_are_good}
+use Rattle.replay_rules.proofs.FirstOrGoodLemmas.{active_is_first_or_good}
 use Rattle.replay_rules.proofs.laws.the_configuration_changes_by_good_verdicts.Goals as goal
 
 pub returns-clause-changes : goal.returns-clause-changes

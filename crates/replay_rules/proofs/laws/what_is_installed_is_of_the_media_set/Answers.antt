@@ -1,6 +1,6 @@
-use Rattle.session_rules.specs.ReadFileLaws.{requests_are_spelled}
-use Rattle.session_rules.specs.SoundLogLaws.{payloads_are_bytes}
-use Rattle.session_rules.specs.SoundnessLaws.{headers_are_spelled}
+use Rattle.session_rules.proofs.ReadFileLemmas.{requests_are_spelled}
+use Rattle.session_rules.proofs.SoundLogLemmas.{payloads_are_bytes}
+use Rattle.session_rules.proofs.SoundnessLemmas.{headers_are_spelled}
 use Rattle.replay_rules.proofs.InstalledMedia.{installs_are_of_media}
 use Rattle.replay_rules.proofs.laws.what_is_installed_is_of_the_media_set.Goals as goal
 

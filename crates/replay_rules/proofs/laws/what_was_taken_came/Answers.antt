@@ -1,4 +1,4 @@
-use Rattle.replay_rules.specs.CameTraceLaws.{both_take_what_came, due_is_acked}
+use Rattle.replay_rules.proofs.CameTraceLemmas.{both_take_what_came, due_is_acked}
 use Rattle.replay_rules.proofs.laws.what_was_taken_came.Goals as goal
 
 pub returns-clause-taken : goal.returns-clause-taken

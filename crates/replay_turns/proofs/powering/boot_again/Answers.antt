@@ -2,7 +2,7 @@ use Rattle.std.proofs.Common.{sym, subst, ap, ◌∙◌}
 use Rattle.std.specs.Prelude.{is_err}
 use Rattle.replay_rules.specs.BothEnds.{Is_down}
 use Rattle.replay_turns.specs.StepsOnDisks.{HoldsRun}
-use Rattle.replay_turns.specs.StepLaws.{reboots_read, reboots_refused}
+use Rattle.replay_turns.proofs.StepLemmas.{reboots_read, reboots_refused}
 use Rattle.replay_turns.proofs.Stepping.{boots_steps, unrestarted_steps}
 use Rattle.replay_turns.proofs.powering.boot_again.Goals as goal
 

@@ -1,14 +1,14 @@
 use Rattle.std.proofs.Common.{Some, ap, sym, subst}
-use Rattle.accept_rules.specs.Interlocks.{Follows}
+use Rattle.accept_rules.specs.Interlocks.{FollowsAccepts}
 use Rattle.replay_rules.specs.BothEnds.{Is_down}
 use Rattle.replay_turns.specs.StepsOnDisks.{HoldsRun}
-use Rattle.replay_turns.specs.BootLaws.{comes_up, comes_up_told, refused_told, stays_down}
+use Rattle.replay_turns.proofs.BootLemmas.{comes_up, comes_up_told, refused_told, stays_down}
 use Rattle.replay_rules.specs.Histories.{may_be_active}
-use Rattle.replay_turns.specs.StepLaws.{read_now, which}
+use Rattle.replay_turns.proofs.StepLemmas.{read_now, which}
 use Rattle.replay_turns.proofs.powering.come_up.Goals as goal
 
 pub returns-in-Ok-clause-rule : goal.returns-in-Ok-clause-rule
-returns-in-Ok-clause-rule g c = λ accepts follows. rw c.replace.ensures.after (subst (λ rule. Follows g.R.Rule.may_say rule accepts) (sym c.in-Ok.ensures.comes_up.rule_is) follows)
+returns-in-Ok-clause-rule g c = λ accepts follows. rw c.replace.ensures.after (subst (λ rule. FollowsAccepts g.R.Rule.may_say rule accepts) (sym c.in-Ok.ensures.comes_up.rule_is) follows)
 
 pub returns-in-Ok-clause-boots : goal.returns-in-Ok-clause-boots
 returns-in-Ok-clause-boots g c =

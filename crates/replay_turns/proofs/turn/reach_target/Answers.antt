@@ -5,7 +5,7 @@ use Rattle.exchange_trace.specs.Logs.{event_for}
 use Rattle.exchange_trace.specs.Posts.{posted_in}
 use Rattle.transfer_end.specs.Calls.{posts_view}
 use Rattle.replay_turns.specs.Turns.{RuleFollows}
-use Rattle.replay_turns.specs.PowerLaws.{leaves_arms}
+use Rattle.replay_turns.proofs.PowerLemmas.{leaves_arms}
 use Rattle.replay_turns.proofs.Taking.{took, took_alive, took_rule}
 use Rattle.replay_turns.proofs.Stepping.{down_steps, next_of, took_steps, unmade_steps}
 use Rattle.replay_turns.proofs.turn.reach_target.Goals as goal

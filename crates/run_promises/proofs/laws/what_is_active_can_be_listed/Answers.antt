@@ -1,6 +1,6 @@
-use Rattle.session_rules.specs.ReadFileLaws.{requests_are_spelled}
-use Rattle.session_rules.specs.SoundLogLaws.{payloads_are_bytes}
-use Rattle.session_rules.specs.SoundnessLaws.{headers_are_spelled}
+use Rattle.session_rules.proofs.ReadFileLemmas.{requests_are_spelled}
+use Rattle.session_rules.proofs.SoundLogLemmas.{payloads_are_bytes}
+use Rattle.session_rules.proofs.SoundnessLemmas.{headers_are_spelled}
 use Rattle.run_promises.proofs.Active.{active_is_listed}
 use Rattle.run_promises.proofs.laws.what_is_active_can_be_listed.Goals as goal
 

@@ -1,4 +1,4 @@
-use Rattle.session_rules.specs.SoundnessLaws.{headers_are_spelled, verdict_is_sound}
+use Rattle.session_rules.proofs.SoundnessLemmas.{headers_are_spelled, verdict_is_sound}
 use Rattle.session_rules.proofs.laws.a_good_verdict_is_sound.Goals as goal
 
 pub returns : goal.returns

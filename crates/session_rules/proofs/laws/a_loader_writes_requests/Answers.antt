@@ -1,4 +1,4 @@
-use Rattle.session_rules.specs.RequestLaws.{loader_writes_requests}
+use Rattle.session_rules.proofs.RequestLemmas.{loader_writes_requests}
 use Rattle.session_rules.proofs.laws.a_loader_writes_requests.Goals as goal
 
 pub returns : goal.returns

@@ -1,4 +1,4 @@
-use Rattle.session_rules.specs.OwnSessionLaws.{sessions_are_of_newest_starts}
+use Rattle.session_rules.proofs.OwnSessionLemmas.{sessions_are_of_newest_starts}
 use Rattle.session_rules.proofs.laws.a_session_is_of_the_newest_start.Goals as goal
 
 pub returns : goal.returns

@@ -1,4 +1,4 @@
-use Rattle.session_rules.specs.ListLaws.{target_asks_for_its_files, target_asks_in_turn}
+use Rattle.session_rules.proofs.ListLemmas.{target_asks_for_its_files, target_asks_in_turn}
 use Rattle.session_rules.proofs.laws.a_target_asks_for_its_files.Goals as goal
 
 pub returns-clause-in_turn : goal.returns-clause-in_turn

@@ -1,4 +1,4 @@
-use Rattle.session_rules.specs.InstallationLaws.{installed_are_checked, installed_have_types}
+use Rattle.session_rules.proofs.InstallationLemmas.{installed_are_checked, installed_have_types}
 use Rattle.session_rules.proofs.laws.an_installation_keeps_loads_checked.Goals as goal
 
 pub returns-clause-checked : goal.returns-clause-checked

@@ -1,4 +1,4 @@
-use Rattle.session_rules.specs.CompletionLaws.{completed_upload_arrived, target_tells_installed}
+use Rattle.session_rules.proofs.CompletionLemmas.{completed_upload_arrived, target_tells_installed}
 use Rattle.session_rules.proofs.laws.an_upload_is_completed_by_its_last_status.Goals as goal
 
 pub returns-clause-arrived : goal.returns-clause-arrived

@@ -1,4 +1,4 @@
-use Rattle.session_rules.specs.ViewLaws.{loaders_follow, targets_follow}
+use Rattle.session_rules.proofs.ViewLemmas.{loaders_follow, targets_follow}
 use Rattle.session_rules.proofs.laws.both_ends_follow_their_logs.Goals as goal
 
 pub returns-clause-loader : goal.returns-clause-loader

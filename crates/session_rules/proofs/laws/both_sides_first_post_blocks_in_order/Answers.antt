@@ -1,4 +1,4 @@
-use Rattle.session_rules.specs.FirstPostLaws.{loader_blocks_in_order, target_blocks_in_order, ticks_repeat}
+use Rattle.session_rules.proofs.FirstPostLemmas.{loader_blocks_in_order, target_blocks_in_order, ticks_repeat}
 use Rattle.session_rules.proofs.laws.both_sides_first_post_blocks_in_order.Goals as goal
 
 pub returns-clause-loader : goal.returns-clause-loader

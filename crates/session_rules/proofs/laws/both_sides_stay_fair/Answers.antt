@@ -1,4 +1,4 @@
-use Rattle.session_rules.specs.FairLaws.{loader_gives_media_files, loader_moves_fit, loader_stays_fair, target_moves_fit, target_stays_fair}
+use Rattle.session_rules.proofs.FairLemmas.{loader_gives_media_files, loader_moves_fit, loader_stays_fair, target_moves_fit, target_stays_fair}
 use Rattle.session_rules.proofs.laws.both_sides_stay_fair.Goals as goal
 
 pub returns-clause-loader_moves : goal.returns-clause-loader_moves

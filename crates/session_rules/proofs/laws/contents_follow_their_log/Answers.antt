@@ -1,4 +1,4 @@
-use Rattle.session_rules.specs.ContentLaws.{contents_are_kept, contents_follow}
+use Rattle.session_rules.proofs.ContentLemmas.{contents_are_kept, contents_follow}
 use Rattle.session_rules.proofs.laws.contents_follow_their_log.Goals as goal
 
 pub returns-clause-kept : goal.returns-clause-kept

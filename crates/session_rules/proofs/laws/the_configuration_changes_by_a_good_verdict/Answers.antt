@@ -1,5 +1,5 @@
-use Rattle.session_rules.specs.SoundnessLaws.{headers_are_spelled}
-use Rattle.session_rules.specs.SoundLogLaws.{changes_by_verdict, payloads_are_bytes}
+use Rattle.session_rules.proofs.SoundnessLemmas.{headers_are_spelled}
+use Rattle.session_rules.proofs.SoundLogLemmas.{changes_by_verdict, payloads_are_bytes}
 use Rattle.session_rules.proofs.laws.the_configuration_changes_by_a_good_verdict.Goals as goal
 
 pub returns : goal.returns

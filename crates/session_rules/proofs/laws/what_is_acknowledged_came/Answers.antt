@@ -1,4 +1,4 @@
-use Rattle.session_rules.specs.AckLaws.{loader_acks_what_came, target_acks_what_came}
+use Rattle.session_rules.proofs.AckLemmas.{loader_acks_what_came, target_acks_what_came}
 use Rattle.session_rules.proofs.laws.what_is_acknowledged_came.Goals as goal
 
 pub returns-clause-loader : goal.returns-clause-loader

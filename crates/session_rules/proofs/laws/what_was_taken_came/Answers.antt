@@ -1,4 +1,4 @@
-use Rattle.session_rules.specs.HeardLaws.{loader_takes_what_came, target_takes_what_came}
+use Rattle.session_rules.proofs.HeardLemmas.{loader_takes_what_came, target_takes_what_came}
 use Rattle.session_rules.proofs.laws.what_was_taken_came.Goals as goal
 
 pub returns-clause-loader : goal.returns-clause-loader

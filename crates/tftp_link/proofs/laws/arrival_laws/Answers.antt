@@ -1,5 +1,5 @@
-use Rattle.tftp_link.specs.ArrivalLaws.{one_stands}
-use Rattle.tftp_link.specs.FileLaws.{arrives_as_prefix, arrives_whole}
+use Rattle.tftp_link.proofs.ArrivalLemmas.{one_stands}
+use Rattle.tftp_link.proofs.FileLemmas.{arrives_as_prefix, arrives_whole}
 use Rattle.tftp_link.proofs.laws.arrival_laws.Goals as goal
 
 pub returns-clause-one : goal.returns-clause-one

@@ -1,4 +1,4 @@
-use Rattle.tftp_link.specs.ArrivalLaws.{served_write_arrives, asked_read_arrives, served_last_makes_whole, asked_last_makes_whole, served_write_acknowledges, asked_read_acknowledges}
+use Rattle.tftp_link.proofs.ArrivalLemmas.{served_write_arrives, asked_read_arrives, served_last_makes_whole, asked_last_makes_whole, served_write_acknowledges, asked_read_acknowledges}
 use Rattle.tftp_link.proofs.laws.receiving_laws.Goals as goal
 
 pub returns-clause-served : goal.returns-clause-served

@@ -1,4 +1,4 @@
-use Rattle.tftp_link.specs.RepeatLaws.{duplicate_ack_is_dropped, other_ack_is_dropped, oack_is_acknowledged_again, late_oack_is_dropped, receiver_fails_at_error, sender_fails_at_error}
+use Rattle.tftp_link.proofs.RepeatLemmas.{duplicate_ack_is_dropped, other_ack_is_dropped, oack_is_acknowledged_again, late_oack_is_dropped, receiver_fails_at_error, sender_fails_at_error}
 use Rattle.tftp_link.proofs.laws.repeat_laws.Goals as goal
 
 pub returns-clause-duplicate_ack : goal.returns-clause-duplicate_ack

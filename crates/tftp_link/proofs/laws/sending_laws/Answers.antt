@@ -1,4 +1,4 @@
-use Rattle.tftp_link.specs.AckLaws.{served_read_sends, asked_write_sends, done_with_the_last_ack, one_count_stands, sends_its_file}
+use Rattle.tftp_link.proofs.AckLemmas.{served_read_sends, asked_write_sends, done_with_the_last_ack, one_count_stands, sends_its_file}
 use Rattle.tftp_link.proofs.laws.sending_laws.Goals as goal
 
 pub returns-clause-served : goal.returns-clause-served

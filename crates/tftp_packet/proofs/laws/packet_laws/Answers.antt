@@ -1,7 +1,7 @@
-use Rattle.field_grammar.specs.ExactLaws.{decided, whole_one_value}
+use Rattle.field_grammar.proofs.ExactLemmas.{decided, whole_one_value}
 use Rattle.tftp_packet.specs.Packets.{packet, packet_bytes}
-use Rattle.tftp_packet.specs.PacketLaws.{spelled_in_range, written_spells, read_again, short_requests}
-use Rattle.tftp_packet.specs.SpelledLaws.{packet_is, packet_from, ends-packet}
+use Rattle.tftp_packet.proofs.PacketLemmas.{spelled_in_range, written_spells, read_again, short_requests}
+use Rattle.tftp_packet.proofs.SpelledLemmas.{packet_is, packet_from, ends-packet}
 use Rattle.tftp_packet.proofs.laws.packet_laws.Goals as goal
 
 pub returns-clause-decided : goal.returns-clause-decided

@@ -1,7 +1,6 @@
 use Rattle.std.proofs.Common.{◌∙◌, sym, arith, ◌≤◌, inl, inr}
-use Rattle.tftp_packet.specs.NumberLaws.{narrowed, within, not_within}
+use Rattle.tftp_packet.proofs.NumberLemmas.{narrowed, within, not_within}
 use Rattle.tftp_packet.proofs.options.number_between.Goals as goal
-use Rattle.tftp_packet.proofs.options.number_between.Goals.{else-low-number-via-then-low-number+else-number-high, else-low-number-via-else-low-number}
 
 pub returns-then-number-high-clause-value : goal.returns-then-number-high-clause-value
 returns-then-number-high-clause-value c =

@@ -1,4 +1,4 @@
-use Rattle.transfer_completion.specs.TalkLaws.{finished_is_whole, reading_begins, receiver_goes_on, sender_goes_on, taken_is_small, writing_begins}
+use Rattle.transfer_completion.proofs.TalkLemmas.{finished_is_whole, reading_begins, receiver_goes_on, sender_goes_on, taken_is_small, writing_begins}
 use Rattle.transfer_completion.proofs.laws.a_packet_on_its_way_moves_its_transfer.Goals as goal
 
 pub returns-clause-receiver : goal.returns-clause-receiver

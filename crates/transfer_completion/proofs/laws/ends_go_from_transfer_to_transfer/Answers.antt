@@ -1,4 +1,4 @@
-use Rattle.transfer_completion.specs.MoveLaws.{asks, binds, binds_with_the_last, goes_on, last_is_acknowledged, more_posts, serves, takes_the_last}
+use Rattle.transfer_completion.proofs.MoveLemmas.{asks, binds, binds_with_the_last, goes_on, last_is_acknowledged, more_posts, serves, takes_the_last}
 use Rattle.transfer_completion.proofs.laws.ends_go_from_transfer_to_transfer.Goals as goal
 
 pub returns-clause-asks : goal.returns-clause-asks

@@ -1,4 +1,4 @@
-use Rattle.transfer_completion.specs.RetryLaws.{moves_do_the_same}
+use Rattle.transfer_completion.proofs.RetryLemmas.{moves_do_the_same}
 use Rattle.transfer_completion.proofs.laws.retries_matter_at_ticks_alone.Goals as goal
 
 pub returns : goal.returns

@@ -1,4 +1,4 @@
-use Rattle.transfer_completion.specs.StaleLaws.{behind_is_stale}
+use Rattle.transfer_completion.proofs.StaleLemmas.{behind_is_stale}
 use Rattle.transfer_completion.proofs.laws.what_came_before_is_stale.Goals as goal
 
 pub returns : goal.returns

@@ -1,4 +1,4 @@
-use Rattle.transfer_completion.specs.PastLaws.{past_is_quiet, past_request_is_spent}
+use Rattle.transfer_completion.proofs.PastLemmas.{past_is_quiet, past_request_is_spent}
 use Rattle.transfer_completion.proofs.laws.what_was_posted_before_changes_nothing.Goals as goal
 
 pub returns-clause-packet : goal.returns-clause-packet

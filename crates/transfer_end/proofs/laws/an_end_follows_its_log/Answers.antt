@@ -1,4 +1,4 @@
-use Rattle.transfer_end.specs.ViewLaws.{view_follows, views_follow}
+use Rattle.transfer_end.proofs.ViewLemmas.{view_follows, views_follow}
 use Rattle.transfer_end.proofs.laws.an_end_follows_its_log.Goals as goal
 
 pub returns-clause-one_move : goal.returns-clause-one_move

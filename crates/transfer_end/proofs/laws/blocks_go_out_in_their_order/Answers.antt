@@ -1,4 +1,4 @@
-use Rattle.transfer_end.specs.RfcLaws.{acknowledges_taken, end_is_of_link, sends_next_block}
+use Rattle.transfer_end.proofs.RfcLemmas.{acknowledges_taken, end_is_of_link, sends_next_block}
 use Rattle.transfer_end.proofs.laws.blocks_go_out_in_their_order.Goals as goal
 
 pub returns-clause-of_link : goal.returns-clause-of_link

@@ -1,5 +1,5 @@
 use Rattle.transfer_end.proofs.FairMoves.{moves_stay_fair}
-use Rattle.transfer_end.specs.ReceivedLaws.{receives_what_was_sent}
+use Rattle.transfer_end.proofs.ReceivedLemmas.{receives_what_was_sent}
 use Rattle.transfer_end.proofs.laws.what_comes_was_sent.Goals as goal
 
 pub returns-clause-moves : goal.returns-clause-moves

@@ -1,4 +1,4 @@
-use Rattle.transfer_end.specs.AckLaws.{last_stays_acked, posts_ack_what_came}
+use Rattle.transfer_end.proofs.AckLemmas.{last_stays_acked, posts_ack_what_came}
 use Rattle.transfer_end.proofs.laws.what_is_acknowledged_came.Goals as goal
 
 pub returns-clause-posts : goal.returns-clause-posts

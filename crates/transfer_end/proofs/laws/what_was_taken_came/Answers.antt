@@ -1,4 +1,4 @@
-use Rattle.transfer_end.specs.CameLaws.{moves_came, taken_blocks_came, taken_was_got}
+use Rattle.transfer_end.proofs.CameLemmas.{moves_came, taken_blocks_came, taken_was_got}
 use Rattle.transfer_end.proofs.laws.what_was_taken_came.Goals as goal
 
 pub returns-clause-got : goal.returns-clause-got

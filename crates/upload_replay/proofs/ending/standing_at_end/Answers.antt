@@ -1,7 +1,7 @@
 use Rattle.std.proofs.Common.{◌≡◌, ◌≤◌, true, false, sym, ◌∙◌, subst, arith}
 use Rattle.std.proofs.lemmas.Result.{IfErr-weaker}
 use Rattle.disk_model.specs.State.{OnlyReads}
-use Rattle.replay_turns.specs.StepLaws.{reboots_read}
+use Rattle.replay_turns.proofs.StepLemmas.{reboots_read}
 use Rattle.upload_replay.proofs.Ended.{last_since}
 use Rattle.upload_replay.proofs.ending.standing_at_end.Goals.{then-not-up+in-Ok, else-not-up}
 use Rattle.upload_replay.proofs.ending.standing_at_end.Goals as goal

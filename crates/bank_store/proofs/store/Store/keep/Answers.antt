@@ -1,9 +1,9 @@
 use Rattle.std.proofs.Common.{◌+◌, ◌++◌, ℕ, List, refl, sym, ◌∙◌, ap, ap₂, subst, arith, rules}
 use Rattle.std.proofs.lemmas.Result.{err_from_is_err_and}
 use Rattle.disk_model.specs.Image.{Image, overlay, range}
-use Rattle.disk_model.specs.RangeLaws.{length_range}
+use Rattle.disk_model.proofs.RangeLemmas.{length_range}
 use Rattle.bank_store.specs.Fits.{SameButForWork}
-use Rattle.bank_store.specs.KnownLaws.{says_one}
+use Rattle.bank_store.proofs.KnownLemmas.{says_one}
 use Rattle.bank_store.proofs.Continuing.{filling_not_sealed, given_of, has_work, missing_none}
 use Rattle.bank_store.proofs.Gates.{same_image}
 use Rattle.bank_store.proofs.Keeping.{keeps_same, keeps_failed}

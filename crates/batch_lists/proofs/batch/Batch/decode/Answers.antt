@@ -1,5 +1,5 @@
 use Rattle.std.proofs.Common.{arith}
-use Rattle.field_grammar.specs.DecoderLaws.{found_spelling, only_spelling, refused, faulty}
+use Rattle.field_grammar.proofs.DecoderLemmas.{found_spelling, only_spelling, refused, faulty}
 use Rattle.batch_lists.specs.Batch.{batch, batch_view}
 use Rattle.batch_lists.specs.BatchFields.{batch_fields, IsBatch}
 use Rattle.batch_lists.specs.declared.fault.BatchFault.TheVariants.{Memory}

@@ -1,5 +1,5 @@
 use Rattle.std.proofs.Common.{arith}
-use Rattle.field_grammar.specs.DecoderLaws.{found_spelling, only_spelling, refused, faulty}
+use Rattle.field_grammar.proofs.DecoderLemmas.{found_spelling, only_spelling, refused, faulty}
 use Rattle.media_lists.specs.ListFields.{list_fields}
 use Rattle.batch_lists.specs.Batches.{batches_list, batches_list_view, batch_body_fields, IsBatchesList}
 use Rattle.batch_lists.specs.declared.fault.BatchesFault.TheVariants.{Memory}

@@ -1,5 +1,5 @@
 use Rattle.std.proofs.Common.{[]}
-use Rattle.bank_store.specs.KnownLaws.{knows_on}
+use Rattle.bank_store.proofs.KnownLemmas.{knows_on}
 use Rattle.intake_tests.proofs.tests.intakes.file_told.Goals as goal
 
 pub finish-requires-clause-active : goal.finish-requires-clause-active

@@ -12,7 +12,7 @@ invariant_of-result g c =
     let same = c.copy_from_slice.ensures.after in
     let size = length-replicate {A = ℕ} g.row.N 0 in
     record {
-      fits = c.requires;
+      fits = c.requires.fits;
       whole = omega (arith, length-append copied (drop n zeros), length-drop n zeros, c.copy_from_slice.ensures.len, length-take n zeros, size);
       zeros = drop_at copied (drop n zeros) n (omega (arith, c.copy_from_slice.ensures.len, length-take n zeros, size)) ∙ drop-replicate n g.row.N 0;
     }

@@ -1,5 +1,5 @@
 use Rattle.std.proofs.Common.{arith}
-use Rattle.field_grammar.specs.DecoderLaws.{found_spelling, only_spelling, refused, faulty}
+use Rattle.field_grammar.proofs.DecoderLemmas.{found_spelling, only_spelling, refused, faulty}
 use Rattle.load_header.specs.Header.{header, header_view}
 use Rattle.load_header.specs.HeaderFields.{header_fields, IsHeader}
 use Rattle.load_header.specs.declared.fault.HeaderFault.TheVariants.{Memory}

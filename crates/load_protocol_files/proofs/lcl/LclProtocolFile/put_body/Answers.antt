@@ -1,4 +1,4 @@
-use Rattle.load_protocol_files.specs.LclLaws.{lcl_fits}
+use Rattle.load_protocol_files.specs.Laws.Lcl.{lcl_fits}
 use Rattle.load_protocol_files.proofs.lcl.LclProtocolFile.put_body.Goals as goal
 
 pub returns-clause-fits : goal.returns-clause-fits

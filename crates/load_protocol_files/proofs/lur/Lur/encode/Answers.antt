@@ -1,7 +1,7 @@
 use Rattle.std.proofs.Common.{ℕ, ◌+◌, ◌*◌, ◌≤◌, length, Result, Ok, Err, IfOk}
 use Rattle.load_base.specs.Listed.{Listed}
 use Rattle.load_protocol_files.specs.Lur.{LurSpells, LurView, lur_view}
-use Rattle.load_protocol_files.specs.LurLaws.{file_size}
+use Rattle.load_protocol_files.specs.Laws.Lur.{file_size}
 use Rattle.load_protocol_files.proofs.lur.Lur.encode.Goals as goal
 
 sized : {E : Type 0} (v : LurView) (result : Result (Listed ℕ) E) → IfOk result (λ bytes. LurSpells v bytes.items) → IfOk result (λ bytes. length bytes.items ≤ 8 + length v.loads * 81)

@@ -1,5 +1,5 @@
 use Rattle.std.proofs.Common.{arith}
-use Rattle.field_grammar.specs.DecoderLaws.{found_spelling, only_spelling, refused, faulty}
+use Rattle.field_grammar.proofs.DecoderLemmas.{found_spelling, only_spelling, refused, faulty}
 use Rattle.media_lists.specs.ListFields.{list_fields}
 use Rattle.media_lists.specs.Files.{files_list, files_list_view, file_body_fields, IsFilesList}
 use Rattle.media_lists.specs.declared.fault.ListFault.TheVariants.{Memory}

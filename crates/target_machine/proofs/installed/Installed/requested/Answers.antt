@@ -1,4 +1,3 @@
-use Rattle.target_machine.proofs.Turning.{still_installed}
 use Rattle.std.proofs.Common.{List, Result, ap, sym, subst, ◌∙◌}
 use Rattle.bank_store.specs.Fits.{InstallsBeside}
 use Rattle.load_protocol_files.specs.declared.lur.Wanted.{Wanted}

@@ -5,19 +5,19 @@ use Rattle.session_rules.specs.Contents.{contents_changed}
 use Rattle.target_machine.specs.Disks.{BringsContents, change_heard}
 use Rattle.target_machine.proofs.Bringing.{hears_block, hears_done, hears_error, hears_last, hears_nothing, last_fails}
 use Rattle.target_machine.proofs.Holding.{answers_so, fails_so}
-use Rattle.accept_rules.specs.Interlocks.{Follows}
+use Rattle.accept_rules.specs.Interlocks.{FollowsAccepts}
 use Rattle.tftp_link.specs.Answers.{news_view}
 use Rattle.transfer_end.specs.Calls.{posted}
-use Rattle.target_machine.specs.Decisions.{Does, following}
+use Rattle.target_machine.specs.Decisions.{TargetDoes, following}
 use Rattle.target_machine.proofs.Following.{ends_with_last}
 use Rattle.target_machine.proofs.Turning.{stays_on_ok}
 use Rattle.target_machine.proofs.target.Target.follow.Goals as goal
 
 pub returns-in_ok-take-in-Last-clause-session : goal.returns-in_ok-take-in-Last-clause-session
 returns-in_ok-take-in-Last-clause-session g c = λ accepts follows x live.
-    subst (λ news. IfOk c.turn.result (λ post. Does (following accepts c.args.self.now.view x (news_view news)) c.args.self.now c.turn.new.self (posted post))) (sym c.in-Last.is)
+    subst (λ news. IfOk c.turn.result (λ post. TargetDoes (following accepts c.args.self.now.view x (news_view news)) c.args.self.now c.turn.new.self (posted post))) (sym c.in-Last.is)
     (ends_with_last accepts c.args.self.now c.take-in-Last.new.self c.turn.new.self x c.in-Last.payload.now c.turn.result live c.in_ok-take-in-Last.ensures.takes c.in_ok-take-in-Last.ensures.calm
-    (λ t e. c.turn.ensures.session accepts (subst (λ rule. Follows g.R.Rule.may_say rule accepts) (sym c.in_ok-take-in-Last.ensures.takes.rule) follows) t e))
+    (λ t e. c.turn.ensures.session accepts (subst (λ rule. FollowsAccepts g.R.Rule.may_say rule accepts) (sym c.in_ok-take-in-Last.ensures.takes.rule) follows) t e))
 
 pub returns-in_ok-take-in-Last-clause-stays_on : goal.returns-in_ok-take-in-Last-clause-stays_on
 returns-in_ok-take-in-Last-clause-stays_on g c =
@@ -25,7 +25,7 @@ returns-in_ok-take-in-Last-clause-stays_on g c =
 
 pub returns-in-PeerError-clause-session : goal.returns-in-PeerError-clause-session
 returns-in-PeerError-clause-session g c = λ accepts follows x live.
-    subst (λ news. IfOk c.turn-in-PeerError.result (λ post. Does (following accepts c.args.self.now.view x (news_view news)) c.args.self.now c.turn-in-PeerError.new.self (posted post))) (sym c.in-PeerError.is)
+    subst (λ news. IfOk c.turn-in-PeerError.result (λ post. TargetDoes (following accepts c.args.self.now.view x (news_view news)) c.args.self.now c.turn-in-PeerError.new.self (posted post))) (sym c.in-PeerError.is)
     (c.turn-in-PeerError.ensures.session accepts follows x live)
 
 pub returns-in-Nothing-clause-brings : goal.returns-in-Nothing-clause-brings
@@ -42,7 +42,7 @@ returns-in_ok-take-in-Block-clause-brings g c = λ accepts follows x kept holds.
 pub returns-in_ok-take-in-Last-clause-brings : goal.returns-in_ok-take-in-Last-clause-brings
 returns-in_ok-take-in-Last-clause-brings g c = λ accepts follows x kept holds.
     let takes = c.in_ok-take-in-Last.ensures.takes in
-    let still = subst (λ rule. Follows g.R.Rule.may_say rule accepts) (sym takes.rule) follows in
+    let still = subst (λ rule. FollowsAccepts g.R.Rule.may_say rule accepts) (sym takes.rule) follows in
     subst (λ news. BringsContents (g.K.Disk.state c.args.disk.now) c.turn.new.self.store (g.K.Disk.state c.turn.new.disk) x (contents_changed x (change_heard accepts c.args.self.now.view c.args.self.now.view.live (news_view news))) c.turn.result) (sym c.in-Last.is)
     (hears_last c.contents_follow_their_log.ensures.kept accepts c.args.self.now.view c.take-in-Last.new.self.view x c.in-Last.payload.now (g.K.Disk.state c.args.disk.now) c.take-in-Last.new.self.store (g.K.Disk.state c.take-in-Last.new.disk) c.turn.new.self.store (g.K.Disk.state c.turn.new.disk) _ c.turn.result kept
     takes.view_is (c.in_ok-take-in-Last.ensures.brings x kept holds) (λ then_kept then_holds. c.turn.ensures.brings accepts still _ then_kept then_holds))

@@ -1,6 +1,6 @@
 use Rattle.std.proofs.Common.{Option, option_map, refl, sym, ap, subst, ◌∙◌}
 use Rattle.std.specs.Prelude.{⊤}
-use Rattle.accept_rules.specs.Interlocks.{Follows}
+use Rattle.accept_rules.specs.Interlocks.{FollowsAccepts}
 use Rattle.session_rules.specs.Target.{later_reason}
 use Rattle.target_machine.specs.Decisions.{TargetState, row_then}
 use Rattle.target_machine.specs.Machine.{session_seen}
@@ -21,7 +21,7 @@ pub returns-in-Ok-Some-clause-session : goal.returns-in-Ok-Some-clause-session
 returns-in-Ok-Some-clause-session g c = λ accepts follows x live.
     let loads = c.self.inside.installed.active.loads in
     let row = c.in-Ok-Some.row in
-    let follows_inside = subst (λ (y : TargetState g.row.R.Denot). Follows g.R.Rule.may_say y.rule accepts) (sym c.self.view_is) follows in
+    let follows_inside = subst (λ (y : TargetState g.row.R.Denot). FollowsAccepts g.R.Rule.may_say y.rule accepts) (sym c.self.view_is) follows in
     let turns = subst (λ (y : Option Row). TurnsTo y (row_then accepts c.self.inside.installed.active (session_seen loads c.in-Some.session) c.args.error) c.self.inside.installed c.turn-next.new.self) c.in-Ok-Some.field-0-is (c.in-Ok-Some.ensures.row accepts follows_inside) in
     turns_row accepts _ c.args.self.now _ c.args.error x (session_seen loads c.in-Some.session) c.self.inside.installed c.turn-next.new.self c.self.view_is live
     (ap (option_map (session_seen loads)) (sym c.take.ensures.value ∙ c.in-Some.is)) refl refl refl refl row turns
@@ -31,7 +31,7 @@ returns-in-Ok-Some-clause-session g c = λ accepts follows x live.
 pub returns-in-Ok-None-clause-session : goal.returns-in-Ok-None-clause-session
 returns-in-Ok-None-clause-session g c = λ accepts follows x live.
     let loads = c.self.inside.installed.active.loads in
-    let follows_inside = subst (λ (y : TargetState g.row.R.Denot). Follows g.R.Rule.may_say y.rule accepts) (sym c.self.view_is) follows in
+    let follows_inside = subst (λ (y : TargetState g.row.R.Denot). FollowsAccepts g.R.Rule.may_say y.rule accepts) (sym c.self.view_is) follows in
     let turns = subst (λ (y : Option Row). TurnsTo y (row_then accepts c.self.inside.installed.active (session_seen loads c.in-Some.session) c.args.error) c.self.inside.installed c.turn-next.new.self) c.in-Ok-None.field-0-is (c.in-Ok-None.ensures.row accepts follows_inside) in
     ends_row accepts _ c.args.self.now _ c.args.error x (session_seen loads c.in-Some.session) c.self.inside.installed c.turn-next.new.self c.self.view_is live
     (ap (option_map (session_seen loads)) (sym c.take.ensures.value ∙ c.in-Some.is)) refl refl refl refl turns
@@ -40,7 +40,7 @@ returns-in-Ok-None-clause-session g c = λ accepts follows x live.
 pub returns-in-Ok-Some-clause-brings : goal.returns-in-Ok-Some-clause-brings
 returns-in-Ok-Some-clause-brings g c = λ accepts follows s x live installs.
     let loads = c.self.inside.installed.active.loads in
-    let follows_inside = subst (λ (y : TargetState g.row.R.Denot). Follows g.R.Rule.may_say y.rule accepts) (sym c.self.view_is) follows in
+    let follows_inside = subst (λ (y : TargetState g.row.R.Denot). FollowsAccepts g.R.Rule.may_say y.rule accepts) (sym c.self.view_is) follows in
     let seen = sym (session_is loads c.self.inside.live c.in-Some.session (session_kept x) (sym c.take.ensures.value ∙ c.in-Some.is) (ap (λ (y : TargetState g.row.R.Denot). y.view.live) c.self.view_is ∙ live)) in
     let inside = subst (λ (y : TargetState g.row.R.Denot). InstallsRow y.store (g.K.Disk.state c.args.disk.now) s x.row x.arrived) (sym c.self.view_is) installs in
     subst (λ (y : TargetState g.row.R.Denot). BringsRow {E = Down} (g.K.Disk.state c.args.disk.now) c.turn-next.new.self.store (g.K.Disk.state c.turn-next.new.disk) s (whole_row_then accepts y.view.active x c.args.error) (Ok tt)) c.self.view_is
@@ -49,7 +49,7 @@ returns-in-Ok-Some-clause-brings g c = λ accepts follows s x live installs.
 pub returns-in-Ok-None-clause-brings : goal.returns-in-Ok-None-clause-brings
 returns-in-Ok-None-clause-brings g c = λ accepts follows s x live installs.
     let loads = c.self.inside.installed.active.loads in
-    let follows_inside = subst (λ (y : TargetState g.row.R.Denot). Follows g.R.Rule.may_say y.rule accepts) (sym c.self.view_is) follows in
+    let follows_inside = subst (λ (y : TargetState g.row.R.Denot). FollowsAccepts g.R.Rule.may_say y.rule accepts) (sym c.self.view_is) follows in
     let seen = sym (session_is loads c.self.inside.live c.in-Some.session (session_kept x) (sym c.take.ensures.value ∙ c.in-Some.is) (ap (λ (y : TargetState g.row.R.Denot). y.view.live) c.self.view_is ∙ live)) in
     let inside = subst (λ (y : TargetState g.row.R.Denot). InstallsRow y.store (g.K.Disk.state c.args.disk.now) s x.row x.arrived) (sym c.self.view_is) installs in
     subst (λ (y : TargetState g.row.R.Denot). BringsRow {E = Down} (g.K.Disk.state c.args.disk.now) c.turn-next.new.self.store (g.K.Disk.state c.turn-next.new.disk) s (whole_row_then accepts y.view.active x c.args.error) (Ok tt)) c.self.view_is
@@ -58,7 +58,7 @@ returns-in-Ok-None-clause-brings g c = λ accepts follows s x live installs.
 pub returns-in-Err-clause-brings : goal.returns-in-Err-clause-brings
 returns-in-Err-clause-brings g c = λ accepts follows s x live installs.
     let loads = c.self.inside.installed.active.loads in
-    let follows_inside = subst (λ (y : TargetState g.row.R.Denot). Follows g.R.Rule.may_say y.rule accepts) (sym c.self.view_is) follows in
+    let follows_inside = subst (λ (y : TargetState g.row.R.Denot). FollowsAccepts g.R.Rule.may_say y.rule accepts) (sym c.self.view_is) follows in
     let seen = sym (session_is loads c.self.inside.live c.in-Some.session (session_kept x) (sym c.take.ensures.value ∙ c.in-Some.is) (ap (λ (y : TargetState g.row.R.Denot). y.view.live) c.self.view_is ∙ live)) in
     let inside = subst (λ (y : TargetState g.row.R.Denot). InstallsRow y.store (g.K.Disk.state c.args.disk.now) s x.row x.arrived) (sym c.self.view_is) installs in
     subst (λ (y : TargetState g.row.R.Denot). BringsRow {T = ⊤} (g.K.Disk.state c.args.disk.now) c.turn-next.new.self.store (g.K.Disk.state c.turn-next.new.disk) s (whole_row_then accepts y.view.active x c.args.error) (Err c.in-Err.down)) c.self.view_is

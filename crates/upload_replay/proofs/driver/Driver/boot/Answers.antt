@@ -1,5 +1,5 @@
 use Rattle.std.proofs.Common.{Err, refl, sym, ap, subst, ◌∙◌}
-use Rattle.accept_rules.specs.Interlocks.{Follows}
+use Rattle.accept_rules.specs.Interlocks.{FollowsAccepts}
 use Rattle.loader_machine.specs.Machine.{LoaderState, media_of}
 use Rattle.upload_replay.proofs.Begins.{begins_tied, comes_up_with, nothing_yet}
 use Rattle.upload_replay.proofs.Ended.{first_refusal}
@@ -24,13 +24,13 @@ pub returns-in-Ok-clause-stands : goal.returns-in-Ok-clause-stands
 returns-in-Ok-clause-stands g c = λ set image is told. record {
   media = is.media ∙ ap (λ (l : LoaderState). media_of l.set) (sym c.new-in-Ok.ensures);
   accepts = is.accepts;
-  up = subst (λ rule. Follows g.R.Rule.may_say rule set.accepts) (sym c.in-Ok.ensures.comes_up.rule_is) is.accepts;
+  up = subst (λ rule. FollowsAccepts g.R.Rule.may_say rule set.accepts) (sym c.in-Ok.ensures.comes_up.rule_is) is.accepts;
 }
 
 pub returns-in-Ok-clause-lives : goal.returns-in-Ok-clause-lives
 returns-in-Ok-clause-lives g c = λ accepts follows. record {
   follows = follows;
-  up = subst (λ rule. Follows g.R.Rule.may_say rule accepts) (sym c.in-Ok.ensures.comes_up.rule_is) follows;
+  up = subst (λ rule. FollowsAccepts g.R.Rule.may_say rule accepts) (sym c.in-Ok.ensures.comes_up.rule_is) follows;
   lived = born accepts c.args.interlock.now (media_of c.new-in-Ok.result.set) c.new.result c.in-Ok.target (g.K.Disk.state c.args.disk.now) c.new.ensures c.in-Ok.ensures.comes_up;
 }
 

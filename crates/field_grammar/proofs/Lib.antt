@@ -1,0 +1,14 @@
+pub mod CombinedLemmas
+pub mod DecoderLemmas
+pub mod ExactLemmas
+pub mod GrammarLemmas
+pub mod JudgedLemmas
+pub mod ListedLemmas
+pub mod LoopLemmas
+pub mod MoveLemmas
+pub mod NumberLemmas
+pub mod PlacedLemmas
+pub mod SectionLemmas
+pub mod StepLemmas
+pub mod TextLemmas
+pub mod WrittenLemmas

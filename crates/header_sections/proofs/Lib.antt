@@ -1,0 +1,3 @@
+pub mod SectionLemmas
+pub mod SizeLemmas
+pub mod WrittenLemmas
