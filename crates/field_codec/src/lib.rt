@@ -37,8 +37,8 @@
 //! }
 //! ```
 //!
-//! The whole is a function that `Gives Memory view result (answer texts bytes.now)`, and the public
-//! call's four clauses follow from that by `found`, `only`, `refused` and `faulty` of
+//! The whole is a function that `AnswersAs Memory view result (answer texts bytes.now)`, and the
+//! public call's four clauses follow from that by `found`, `only`, `refused` and `faulty` of
 //! `field_grammar`'s `proofs/DecoderLemmas.antt`, one line each.
 #![tactic(auto)]
 

@@ -19,7 +19,7 @@ use media_check::Built;
 use printed_text::{Printed, coded};
 use std::alloc::Global;
 
-/// BuildsFolder the set that the recipe of this name says into a folder.
+/// Builds the set that the recipe of this name says into a folder.
 pub(crate) fn build<'w, H: Host>(
     alloc: Global,
     host: &mut H,
@@ -143,7 +143,7 @@ fn is_load(statement: &Statement) -> bool
     matches!(statement, Statement::Load(_))
 }
 
-/// MakesFolder the generated set of a number in a folder.
+/// Makes the generated set of a number in a folder.
 pub(crate) fn make<'w, H: Host>(
     alloc: Global,
     host: &mut H,

@@ -55,7 +55,7 @@ const OUTPUT_FAILED: u8 = 7;
 /// | status | when |
 /// |---|---|
 /// | 0 | what was asked for was printed |
-/// | 1 | `check` found something, or a session of `replay`, `wire`, `trial` or `fleet` wasn't completed |
+/// | 1 | `check` found something, or a session of a run, or a batch of `fleet`, wasn't completed |
 /// | 2 | the arguments are no command |
 /// | 3 | an input is absent, too long or not in its grammar, or a media set is too large |
 /// | 4 | the host failed |
@@ -70,7 +70,8 @@ pub struct Ended {
     /// What happened in a run of `replay`, `wire` or `trial` that came to its end, its sessions,
     /// and what the disk held then. None for other commands, and where memory ran out.
     pub drive: Option<Drive>,
-    /// The same of a run of `fleet`, with the sessions of each unit and what its disk held.
+    /// The same of a run of `fleet`: the sessions of each unit, what its disk held, and what each
+    /// batch came to.
     pub fleet: Option<FleetDrive>,
 }
 

@@ -19,7 +19,7 @@ use media_check::{Built, Placed};
 /// digits and 64 of a file's name.
 const LONGEST_NAME: usize = 256;
 
-/// WritesToHost a set into this folder of the host, member by member: `LOADS.LUM`, `FILES.LUM`,
+/// Writes a set into this folder of the host, member by member: `LOADS.LUM`, `FILES.LUM`,
 /// `BATCHES.LUM` if the set has one, and the member's files in the order of the set
 /// (docs/FORMATS.md). Where the host fails at a file, those before it were written, that one may
 /// have anything, and the others are as they were. Where the host is out of memory, that one is as

@@ -1,4 +1,4 @@
--- Where the files of a media set lie in a folder of the host (docs/FORMATS.md, "MediaBytes sets").
+-- Where the files of a media set lie in a folder of the host (docs/FORMATS.md, "Media sets").
 use Rattle.std.specs.Prelude.{ℕ, List, [], ◌∷◌, ◌++◌, codes, map, ◌==◌, if◌then◌else◌}
 use Rattle.std.specs.Fmt.{decimal}
 use Rattle.std.specs.List.{flat_map}

@@ -87,7 +87,7 @@ Opens folder result files =
 abbrev pub OpensRest : (folder : List ℕ) → MemberView → Result MediaSet OpenFault → Files → Type 0
 OpensRest folder first result files = ReadsSet files (further_reading folder first) (set_with (host_media files folder) first) result
 
--- ReadingOrder the files of these names gives what is to be had of them, or refuses the first that is too long.
+-- Reading the files of these names gives what is to be had of them, or refuses the first that is too long.
 abbrev pub ReadsNames : {T : Type 0} → (names : List (List ℕ)) → (IsRead : Files → T → Type 0) → Result T OpenFault → Files → Type 0
 ReadsNames names IsRead (Ok x) files = All (IsShortOnHost files) names × IsRead files x
 ReadsNames names IsRead (Err (TooLong name)) files = IsFirstLong files names name.items

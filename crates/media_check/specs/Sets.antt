@@ -1,4 +1,4 @@
--- A media set as a value: the lists of its members as they were found, and the listed files (docs/FORMATS.md, "MediaBytes sets").
+-- A media set as a value: the lists of its members as they were found, and the listed files (docs/FORMATS.md, "Media sets").
 pub use Rattle.media_check.specs.Kept.{ListedFileView, found_as, found_in, found_view, entries_of, file_view, files_view}
 use Rattle.std.specs.Prelude.{◌≡◌, ℕ, ◌-◌, ◌≤◌, List, [], length, map, Option, Some, None}
 use Rattle.std.specs.List.{range_with_len}

@@ -1,4 +1,4 @@
--- A media set that was read can be told: its entries in requests, and its files in transfers (docs/FORMATS.md, "MediaBytes sets";
+-- A media set that was read can be told: its entries in requests, and its files in transfers (docs/FORMATS.md, "Media sets";
 -- docs/EXCHANGE.md, "Operations").
 use Rattle.std.specs.Prelude.{◌≡◌, ℕ, ◌≤◌, List, length, Some}
 use Rattle.std.specs.List.{AllByRecursion}

@@ -1,4 +1,6 @@
+pub mod AskedInOrder
 pub mod BatchTurns
+pub mod CompletedSessions
 pub mod FewTargets
 pub mod FirstBoots
 pub mod FleetTurns

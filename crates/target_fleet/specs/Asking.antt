@@ -139,8 +139,8 @@ abbrev pub IsUploadAt : (unit : ℕ) → HappeningView → Option UnitUpload →
 IsUploadAt unit h None = ⊥
 IsUploadAt unit h (Some next) = (unit ≡ next.unit) × (h ≡ Upload_started next.hw next.pos next.parts)
 
--- Each upload that was asked is the one that came next then. So for each batch they are those to its first targets, in order,
--- each with exactly its parts, and each but the first comes where the session before it is completed.
+-- Each upload that was asked is the one that came next then. What each batch asked so is told by the law
+-- `a_batch_asks_its_first_targets`.
 abbrev pub AllAsked : SetView → List UnitPlace → List StepOfFleet → Type 0
 AllAsked shown places [] = ⊤
 AllAsked shown places (Of_unit true unit s ∷ earlier) =
@@ -151,8 +151,8 @@ AllAsked shown places (Of_all ∷ earlier) = AllAsked shown places earlier
 
 -- ---- what batches come to
 
--- where a batch may not go on: all uploads were asked and are completed, or the session asked last is live or came to
--- something else
+-- where a batch may not go on: all uploads were asked and are completed (the law `a_completed_batch_asked_all`), or the
+-- session asked last is live or came to something else. A batch on the media has a target, so one that asked none may go on
 abbrev pub ended_by : LastAsked → BatchOutcome
 ended_by None_asked = ends.Completed
 ended_by Last_completed = ends.Completed

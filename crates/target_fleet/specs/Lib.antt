@@ -1,3 +1,4 @@
+pub mod AskedUploads
 pub mod Asking
 pub mod AskingCalls
 pub mod Boots

@@ -1,11 +1,18 @@
 //! Laws of fleets that ran. Each function does nothing; its clauses are the law.
-ghost use Rattle.std.specs.Prelude.{ℕ, List, Option};
+ghost use Rattle.std.specs.Prelude.{◌≡◌, ℕ, List, length, Option};
 ghost use Rattle.disk_layout.specs.Holds.{StandingView};
 ghost use Rattle.fleet_trace.specs.FleetFollowing.{FleetAsking};
 ghost use Rattle.fleet_trace.specs.FleetLines.{FleetLine};
 ghost use Rattle.fleet_trace.specs.FleetTraces.{StepOfFleet};
+ghost use Rattle.media_check.specs.Sets.{SetView};
 ghost use Rattle.replay_rules.specs.BothEnds.{Setting};
 ghost use Rattle.session_rules.specs.Loader.{EndedSession};
+ghost use Rattle.target_fleet.specs.AskedUploads.{
+  AllAskFirstTargets,
+  CompletedAskedAll,
+  asked_batches,
+};
+ghost use Rattle.target_fleet.specs.Asking.{AllAsked, UnitPlace, ends_of};
 ghost use Rattle.target_fleet.specs.Bounds.{FinishEndsAtUnit};
 ghost use Rattle.target_fleet.specs.Finishes.{CompletesAtUnit};
 
@@ -31,3 +38,20 @@ pub fn a_fleets_last_finish_ends()
 {
     every_finish_ends();
 }
+
+/// Each batch of a fleet asked the uploads to its first targets, in their order, each of exactly
+/// the target's parts, where the sessions of all before it are completed. Each has one end.
+pub fn a_batch_asks_its_first_targets()
+    ensures for_each { (shown : SetView) (places : List UnitPlace) (steps : List StepOfFleet)
+        → AllAsked shown places steps
+        → length (asked_batches steps) ≡ length (ends_of shown places steps) }
+    ensures first { (shown : SetView) (places : List UnitPlace) (steps : List StepOfFleet)
+        → AllAsked shown places steps → AllAskFirstTargets shown places steps }
+{}
+
+/// A batch of a fleet that came to be completed asked all its targets, and the sessions of all are
+/// completed at the end.
+pub fn a_completed_batch_asked_all()
+    ensures { (shown : SetView) (places : List UnitPlace) (steps : List StepOfFleet)
+        → AllAsked shown places steps → CompletedAskedAll shown places steps }
+{}

@@ -49,7 +49,7 @@ impl FleetTrace {
         FleetTrace { order, units }
     }
 
-    /// How many datagrams both sides of this unit posted.
+    /// How many datagrams both sides of this unit, counted from 1, posted; 0 where there is none.
     pub fn posted_at(&self, unit: usize) -> u64
         ensures { result ≡ posts_at unit self.now }
     {

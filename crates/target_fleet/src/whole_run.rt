@@ -28,7 +28,9 @@ use std::alloc::Global;
 /// Runs a loader that serves this media set, and the targets of these disks, unit 1 on the first,
 /// until the link gives the end. Each unit has a loader of its own, and what is said of a run with
 /// one target ([`upload_replay::drive`]) is said of each unit by its part of the trace. A target's
-/// disk is touched in the steps of its own unit alone.
+/// disk is touched in the steps of its own unit alone. Where the link asks for an upload, that to
+/// the next target of the running batch starts, at the least unit that is there (docs/EXCHANGE.md,
+/// "Batches").
 ///
 /// Nothing was posted to the link before, and its script was read for as many units as there are
 /// disks.

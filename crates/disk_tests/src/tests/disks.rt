@@ -418,6 +418,44 @@ fn two_disks_have_no_file_in_common(rt: HostRuntime) -> Result<(), Fail> {
     Ok(())
 }
 
+/// Whether a write fails on the disk of each of these files, all of one program.
+fn fail_each(rt: &HostRuntime, names: &[&str; 9]) -> [bool; 9] {
+    let opened = OpenedFiles::new();
+    let mut failed = [false; 9];
+    for (failed, name) in failed.iter_mut().zip(names) {
+        *failed = fails(&mut fused_file(rt, &opened, name));
+    }
+    failed
+}
+
+fn fails<K: Disk>(disk: &mut K) -> bool
+    requires { (K.state disk.old).stopped ≡ false }
+{
+    disk.write(0, &[1]) == Err(DiskFault::Failed)
+}
+
+const NINE: [&str; 9] = [
+    "1_of_9.disk",
+    "2_of_9.disk",
+    "3_of_9.disk",
+    "4_of_9.disk",
+    "5_of_9.disk",
+    "6_of_9.disk",
+    "7_of_9.disk",
+    "8_of_9.disk",
+    "9_of_9.disk",
+];
+
+#[test]
+fn a_ninth_file_is_refused(rt: HostRuntime) -> Result<(), Fail> {
+    let eight_open = [false, false, false, false, false, false, false, false, true];
+    assert!(rt; fail_each(&rt, &NINE) == eight_open);
+    for name in &NINE {
+        fs::remove_file(&rt, *name)?;
+    }
+    Ok(())
+}
+
 #[test]
 fn a_folder_is_no_disk(rt: HostRuntime) -> Result<(), Fail> {
     assert!(rt; read_first(&rt, ".") == Err(DiskFault::Failed));

@@ -5,16 +5,17 @@ ghost use Rattle.disk_model.specs.MemDisk.{state_of};
 ghost use Rattle.disk_model.specs.Fused.{state_of as fused_in};
 ghost use Rattle.target_fleet.specs.Units.{AllDisks};
 
-use super::link_refusals::{HW1, ONE_LOAD, disk_of, opened};
+use super::link_refusals::{HW1, ONE_LOAD, WITH_BATCH, disk_of, opened};
 use accept_rules::{Interlock, PermitsAll};
 use disk_model::{Fused, MemDisk};
+use exchange_trace::{Happening, Side, TraceStep};
 use fleet_link::{FleetLink, FleetScript};
 use load_base::{Bytes, NoMemory};
 use media_check::MediaSet;
 use session_rules::Outcome;
 use std::alloc::Global;
 use std::test::Fail;
-use target_fleet::{FleetDrive, FleetFault, UnitEnd, fleet, fleet_text};
+use target_fleet::{FleetDrive, FleetFault, FleetStep, FleetTrace, UnitEnd, fleet, fleet_text};
 
 /// A link that begins the script of these lines, of two units.
 fn link_of(alloc: Global, asks: &[u8], rest: &[u8]) -> Result<FleetLink, Fail>
@@ -160,8 +161,67 @@ fn report_of(alloc: Global, run: &FleetDrive) -> Result<Bytes, Fail> {
     Ok(fleet_text(alloc, run)?)
 }
 
-/// The report of a run, and how many lines its trace has.
-fn told(alloc: Global, run: FleetDrive) -> Result<(Bytes, usize), Fail> {
+/// A line of a trace as three characters: the unit's number, and then `p` and who posts a datagram,
+/// `l` or `t`; `l` or `t` and the unit's own number of the datagram that goes there, as a letter
+/// from `A` on; `si` or `su` for a session that starts, and `--` for what else happens. Or `bat` for
+/// a batch, `ask` for an upload that is asked, and `...` for the end.
+fn shown(line: &FleetStep) -> [u8; 3] {
+    match line {
+        FleetStep::At { unit, step } => {
+            let [first, second] = shown_at(step);
+            [unit.saturating_add(b'0'), first, second]
+        }
+        FleetStep::Batch(_) => *b"bat",
+        FleetStep::AskNext => *b"ask",
+        FleetStep::End => *b"...",
+    }
+}
+
+fn shown_at(step: &TraceStep) -> [u8; 2] {
+    match step {
+        TraceStep::Posted(datagram) => match datagram.from_side {
+            Side::Loader => *b"pl",
+            Side::Target => *b"pt",
+        },
+        TraceStep::Given(happening) => shown_given(happening),
+        TraceStep::Down | TraceStep::Up { .. } | TraceStep::BootRefused(_) => *b"--",
+    }
+}
+
+fn shown_given(happening: &Happening) -> [u8; 2] {
+    match happening {
+        Happening::ToLoader(number) => [b'l', letter(*number)],
+        Happening::ToTarget(number) => [b't', letter(*number)],
+        Happening::StartInfo { .. } => *b"si",
+        Happening::StartUpload { .. } => *b"su",
+        _ => *b"--",
+    }
+}
+
+fn letter(number: u64) -> u8 {
+    match u8::try_from(number) {
+        Ok(number) => number.saturating_add(b'@'),
+        Err(_) => b'?',
+    }
+}
+
+fn shown_all(alloc: Global, lines: &[FleetStep]) -> Result<Bytes, NoMemory> {
+    let mut text = Bytes::new(alloc);
+    for line in lines {
+        text.extend(&shown(line))?;
+    }
+    Ok(text)
+}
+
+fn lines_of(alloc: Global, trace: FleetTrace) -> Result<Bytes, NoMemory> {
+    let lines = trace.into_lines(alloc)?;
+    let shown = shown_all(alloc, lines.as_slice());
+    drop(lines);
+    shown
+}
+
+/// The report of a run, and the lines of its trace.
+fn told(alloc: Global, run: FleetDrive) -> Result<(Bytes, Bytes), Fail> {
     let report = report_of(alloc, &run)?;
     let FleetDrive {
         trace,
@@ -169,11 +229,11 @@ fn told(alloc: Global, run: FleetDrive) -> Result<(Bytes, usize), Fail> {
         batches,
     } = run;
     drop((units, batches));
-    let lines = trace.into_lines(alloc)?;
-    Ok((report, lines.len()))
+    let lines = lines_of(alloc, trace)?;
+    Ok((report, lines))
 }
 
-fn told_on(alloc: Global, media: &MediaSet, link: &mut FleetLink) -> Result<(Bytes, usize), Fail>
+fn told_on(alloc: Global, media: &MediaSet, link: &mut FleetLink) -> Result<(Bytes, Bytes), Fail>
     requires posted { link.old.posted ≡ [] }
     requires units { link.old.units ≡ 2 }
 {
@@ -187,12 +247,19 @@ fn told_on(alloc: Global, media: &MediaSet, link: &mut FleetLink) -> Result<(Byt
     }
 }
 
+/// The batch's first target is unit 1, and no unit is its second one.
+const ASKS: &[u8] = b"at 2 info HW1 L\nbatch ABC43-0000-0003\nasknext\n";
+
 /// As another program printed it.
 const REPORT: &[u8] = b"unit 1
-datagrams 0
+session 1 upload completed
+datagrams 21
 target HW1 L SN1
-bank 0 sequence 1
-loads 0
+bank 1 sequence 2
+loads 1
+load ABC41-0000-0001 APP.LUH 2
+file APP.LUH 122 248A
+file APP.BIN 9 29B1
 unit 2
 session 1 info completed
 hardware HW1 SN1
@@ -200,16 +267,22 @@ datagrams 11
 target HW1 L SN1
 bank 0 sequence 1
 loads 0
+batch ABC43-0000-0003 asked 1 of 2 nounit
 ";
 
+/// The traces of that program of either session alone, merged by the numbers over both units.
+const LINES: &[u8] = b"2si2plbatask1su1pl2tA2pt1tA1pt2lB2pl1lB1pl2tC2pt1tC1pt2lD2pl1lD1pl2tE2pt1tE\
+    1pt2lF2pl1lF1pl1pl2tG2pt1tG1tH1pt2lH2pl1lI1pl2tI2pt1tJ1pt1pt2lJ2pl1lK1lL1pl2tK1tM1pt1pt1lN1lO\
+    1pl1tP1pt1pt1lQ1lR1pl1tS1pt1lT1pl1tU...";
+
 #[test]
-fn the_report_of_a_fleet_tells_of_each_unit(rt: HostRuntime) -> Result<(), Fail> {
-    let media = opened(rt.alloc(), &ONE_LOAD)?;
-    let mut link = link_of(rt.alloc(), b"at 2 info HW1 L\n", b"finish\n")?;
+fn a_fleet_is_told_unit_by_unit_and_line_by_line(rt: HostRuntime) -> Result<(), Fail> {
+    let media = opened(rt.alloc(), &WITH_BATCH)?;
+    let mut link = link_of(rt.alloc(), ASKS, b"finish\n")?;
     let told = told_on(rt.alloc(), &media, &mut link);
     drop((media, link));
     let (report, lines) = told?;
     assert_eq!(rt; report.as_slice(), REPORT);
-    assert_eq!(rt; lines, 24);
+    assert_eq!(rt; lines.as_slice(), LINES);
     Ok(())
 }

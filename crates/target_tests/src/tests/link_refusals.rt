@@ -24,7 +24,7 @@ use recovery::recover;
 use std::alloc::Global;
 use std::test::Fail;
 use upload_replay::{Drive, DriveFault, drive};
-use worked_files::{APP_FILES, APP_HEADER, APP_LOADS};
+use worked_files::{APP_FILES, APP_HEADER, APP_LOADS, BATCH, BATCH_FILES, BATCH_LIST};
 
 /// The contents of the one file of each of the first two loads.
 const BODY: &[u8] = b"123456789";
@@ -34,6 +34,16 @@ pub(crate) const ONE_LOAD: [(&[u8], &[u8]); 4] = [
     (b"P/1/FILES.LUM", &APP_FILES),
     (b"P/1/APP.LUH", &APP_HEADER),
     (b"P/1/APP.BIN", BODY),
+];
+
+/// The same with a batch.
+pub(crate) const WITH_BATCH: [(&[u8], &[u8]); 6] = [
+    (b"P/1/LOADS.LUM", &APP_LOADS),
+    (b"P/1/FILES.LUM", &BATCH_FILES),
+    (b"P/1/BATCHES.LUM", &BATCH_LIST),
+    (b"P/1/APP.LUH", &APP_HEADER),
+    (b"P/1/APP.BIN", BODY),
+    (b"P/1/TWO.LUB", &BATCH),
 ];
 
 const FOR_HW9: [(&[u8], &[u8]); 4] = [
