@@ -19,12 +19,11 @@ use Rattle.fleet_link.specs.FleetMail.{FleetMailView, KeepsFleetMail, NamesPlace
 -- ---- what is given
 
 -- what a unit's mail gives for a datagram is given in the fleet for its place
-pub given_there : (gives : Scene → ℕ → Option HappeningView) (mail : FleetMailView) (units : ℕ) (waits_at : (unit : ℕ) → Side → Bool) (may_ask : Bool) (place : Place) (m : MailView) (found : Option Happening) (given : Option FleetHappening)
+pub given_at_unit : (gives : Scene → ℕ → Option HappeningView) (mail : FleetMailView) (units : ℕ) (waits_at : (unit : ℕ) → Side → Bool) (may_ask : Bool) (place : Place) (m : MailView) (found : Option Happening)
     → m ≡ mail_of place.unit mail → ((loader target : Bool) → option_map happening_view found ≡ gives (scene_in m loader target) place.number)
-    → option_map fleet_happening_view given ≡ option_map (λ h. At_unit place.unit (happening_view h)) found
-    → option_map fleet_happening_view given ≡ given_at_place (fleet_scene_in mail units waits_at may_ask) gives (Some (place_view place))
-given_there gives mail units waits_at may_ask place m found given own value is =
-    is ∙ (in_two found ∙ ap (option_map (At_unit place.unit)) (value loader target ∙ ap (λ (n : MailView). gives (scene_in n loader target) place.number) own))
+    → option_map (λ h. At_unit place.unit (happening_view h)) found ≡ given_at_place (fleet_scene_in mail units waits_at may_ask) gives (Some (place_view place))
+given_at_unit gives mail units waits_at may_ask place m found own value =
+    in_two found ∙ ap (option_map (At_unit place.unit)) (value loader target ∙ ap (λ (n : MailView). gives (scene_in n loader target) place.number) own)
   where
     loader : Bool
     loader = waits_at place.unit sides.Loader
@@ -35,6 +34,13 @@ given_there gives mail units waits_at may_ask place m found given own value is =
     in_two : (found : Option Happening) → option_map (λ h. At_unit place.unit (happening_view h)) found ≡ option_map (At_unit place.unit) (option_map happening_view found)
     in_two None = refl
     in_two (Some h) = refl
+
+-- the same, as a happening of the fleet
+pub given_there : (gives : Scene → ℕ → Option HappeningView) (mail : FleetMailView) (units : ℕ) (waits_at : (unit : ℕ) → Side → Bool) (may_ask : Bool) (place : Place) (m : MailView) (found : Option Happening) (given : Option FleetHappening)
+    → m ≡ mail_of place.unit mail → ((loader target : Bool) → option_map happening_view found ≡ gives (scene_in m loader target) place.number)
+    → option_map fleet_happening_view given ≡ option_map (λ h. At_unit place.unit (happening_view h)) found
+    → option_map fleet_happening_view given ≡ given_at_place (fleet_scene_in mail units waits_at may_ask) gives (Some (place_view place))
+given_there gives mail units waits_at may_ask place m found given own value is = is ∙ given_at_unit gives mail units waits_at may_ask place m found own value
 
 -- it names a datagram of its unit
 pub named_there : (mail : FleetMailView) (unit : ℕ) (m : MailView) (found : Option Happening) (given : Option FleetHappening) → (1 ≤ unit) × (unit ≤ 8) → m ≡ mail_of unit mail

@@ -1,8 +1,11 @@
 //! The link of a fleet, which follows a script.
-ghost use Rattle.std.specs.Prelude.{◌≡◌, ◌≤◌, [], IfOk, OnOk, OnErr, length};
+ghost use Rattle.std.specs.Prelude.{◌≡◌, ◌≤◌, [], Bool, IfNone, IfOk, IfSome, OnOk};
+ghost use Rattle.std.specs.Prelude.{List as Items, OnErr, length};
 ghost use Rattle.exchange_trace.specs.Happenings.{datagram_view, happening_view};
 ghost use Rattle.fleet_trace.specs.FleetFollowing.{next_fleet_turn};
-ghost use Rattle.fleet_trace.specs.FleetTraces.{fleet_happening_view};
+ghost use Rattle.fleet_trace.specs.FleetPosts.{posts_of_unit};
+ghost use Rattle.fleet_trace.specs.FleetTraces.{At_unit, fleet_happening_view};
+ghost use Rattle.link_net.specs.declared.link.Waits.{Waits};
 ghost use Rattle.fleet_link.specs.FleetLinks.{GivesInFleet, IsUploadStart, fleet_scene_of};
 ghost use Rattle.fleet_link.specs.FleetLinks.{plan_in, with_post_at, with_start_at};
 ghost use Rattle.fleet_link.specs.FleetMail.{NamesPlaced, with_gift};
@@ -97,6 +100,14 @@ impl FleetLink {
         self.mail.post(unit, datagram)
     }
 
+    /// How many datagrams the sides of this unit posted.
+    pub fn posted_count(&self, unit: u8) -> usize
+        requires { (1 ≤ unit) × (unit ≤ self.now.units) }
+        ensures { result ≡ length (posts_of_unit unit self.now.posted) }
+    {
+        self.mail.mail_at(unit).posted_count()
+    }
+
     /// Takes note that this upload was started at this unit, as the link asked.
     pub fn started(&mut self, unit: u8, start: &Happening)
         requires unit { (1 ≤ unit) × (unit ≤ self.old.units) }
@@ -104,6 +115,25 @@ impl FleetLink {
         ensures { self.new ≡ with_start_at self.old unit (happening_view start.now) }
     {
         self.mail.give(unit, start);
+    }
+
+    /// What happens next and at which unit, where that is a datagram that a `finish` delivers. It
+    /// is then what [`FleetLink::next`] gives, whatever waits and whether or not an upload may be
+    /// asked.
+    pub fn next_of_finish(&mut self) -> Option<(u8, Happening)>
+        ensures some { IfSome result (λ given. (waits : Items Waits) (may_ask : Bool)
+            → length waits ≡ self.old.units → GivesInFleet self.old self.new waits may_ask
+            (At_unit given.0 (happening_view given.1))) }
+        ensures none { IfNone result (self.new ≡ self.old) }
+    {
+        match self.rest {
+            FleetRest::Finishing(_) | FleetRest::BatchFinishing(_) => {
+                let (unit, given) = self.mail.least_at_unit()?;
+                self.mail.give(unit, &given);
+                Some((unit, given))
+            }
+            FleetRest::Nothing | FleetRest::Deliveries(_) => None,
+        }
     }
 
     /// What happens next, where these sides of each unit have a live session, and where the upload

@@ -142,6 +142,19 @@ impl FleetMail {
         self.delivery_at(self.least_place())
     }
 
+    /// The same, and its unit.
+    pub fn least_at_unit(&self) -> Option<(u8, Happening)>
+        ensures value { (units : ℕ) (waits_at : (unit : ℕ) → Side → Bool) (may_ask : Bool)
+            → option_map (λ given. At_unit given.0 (happening_view given.1)) result
+            ≡ least_fleet_delivery (fleet_scene_in self.now units waits_at may_ask) }
+        ensures named { IfSome result (λ given.
+            NamesPlaced self.now (At_unit given.0 (happening_view given.1))) }
+    {
+        let place = self.least_place()?;
+        let given = self.mail_at(place.unit).delivery(place.number)?;
+        Some((place.unit, given))
+    }
+
     /// Keeps what is given at this unit.
     pub fn give(&mut self, unit: u8, given: &Happening)
         requires { NamesPlaced self.old (At_unit unit (happening_view given.now)) }

@@ -1,5 +1,5 @@
 //! A short text in an array of a fixed size.
-ghost use Rattle.std.specs.Prelude.{◌≡◌, ◌≤◌, ◌<◌, length};
+ghost use Rattle.std.specs.Prelude.{◌≡◌, ◌≤◌, ◌<◌, ◌^◌, length};
 
 use std::marker::Model;
 
@@ -7,8 +7,8 @@ use std::marker::Model;
 #[derive(Clone, Copy)]
 pub(crate) struct Padded<const N: usize> {
     cells: [u8; N],
-    // A byte, since these texts are kept in each line of a trace.
-    len: u8,
+    // Half a word, since these texts are kept in the lines of a trace.
+    len: u32,
 }
 
 impl<const N: usize> Model for Padded<N> {
@@ -32,20 +32,20 @@ impl<const N: usize> Model for Padded<N> {
 impl<const N: usize> Padded<N> {
     pub(crate) fn new(text: &[u8]) -> Padded<N>
         requires fits { length text.now ≤ N }
-        requires short { length text.now < 256 }
+        requires short { length text.now < 2 ^ 32 }
         ensures { result ≡ text.now }
     {
         let mut cells = [0; N];
         cells[..text.len()].copy_from_slice(text);
         Padded {
             cells,
-            len: text.len() as u8,
+            len: text.len() as u32,
         }
     }
 
     pub(crate) fn as_slice(&self) -> &[u8]
         ensures { result.now ≡ self.now }
     {
-        &self.cells[..usize::from(self.len)]
+        &self.cells[..self.len as usize]
     }
 }

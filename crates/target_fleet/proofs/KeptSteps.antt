@@ -1,7 +1,6 @@
 -- A fleet's steps, kept as the traces of its units.
 use Rattle.std.proofs.Common.{◌≡◌, ℕ, suc, ◌+◌, ◌-◌, ◌≤◌, Bool, true, false, cond, List, [], ◌∷◌, length, Option, Some, None, append-nil, eqb-true, ne_eqb, arith, refl, sym, ap, ◌∙◌}
 use Rattle.std.specs.Prelude.{reverse, slice_get, ◌==◌}
-use Rattle.std.specs.List.{count_by}
 use Rattle.std.proofs.lemmas.Bool.{eqb-false}
 use Rattle.std.proofs.lemmas.List.{length-reverse, reverse-reverse}
 use Rattle.std.proofs.lemmas.List.Sums.{sum_by-cons}
@@ -14,8 +13,6 @@ use Rattle.fleet_trace.specs.Merging.{Batch_came, Stepped, Unit_stepped, is_of_u
 use Rattle.fleet_trace.specs.declared.trace.FleetStep.{FleetStep}
 use Rattle.fleet_trace.proofs.Merging.{merged_again, merged_goes, order_of_merged, own_of_merged, same_merged}
 use Rattle.load_base.specs.Listed.{Listed}
-use Rattle.upload_replay.proofs.OrderLemmas.{posts_by_steps}
-use Rattle.upload_replay.specs.Texts.{is_post}
 use Rattle.target_fleet.specs.FleetTexts.{posted_at}
 use Rattle.target_fleet.specs.Merges.{AreUnits, HaveOwnSteps, KeepsSteps, MergesAll, own_steps, steps_to_end, steps_told}
 use Rattle.target_fleet.specs.Orders.{IsFleetInOrder}
@@ -124,11 +121,11 @@ module _ (order : List Stepped) (traces : List (Listed TraceStep)) (kept : Keeps
   posts_kept unit =
       ap length (append-nil (posted_in (steps_of_unit unit steps))) ∙ ap (λ (own : List Step). length (posted_in own)) (own_of_merged (reverse order) (own_steps traces) unit (kept.named unit))
 
-  pub posts_of_trace : (unit : ℕ) (trace : Listed TraceStep) → 1 ≤ unit → slice_get traces (unit - 1) ≡ Some trace → count_by is_post trace.items ≡ posted_at unit (steps_to_end order traces)
+  pub posts_of_trace : (unit : ℕ) (trace : Listed TraceStep) → 1 ≤ unit → slice_get traces (unit - 1) ≡ Some trace
+      → length (posted_in (steps_of trace.items)) ≡ posted_at unit (steps_to_end order traces)
   posts_of_trace unit trace above there =
       let number : unit - 1 + 1 ≡ unit = omega (arith, above) in
-      posts_by_steps trace.items (kept.ordered (unit - 1) trace there)
-      ∙ (ap (λ (own : List Step). length (posted_in own)) (sym (own_of_trace traces (unit - 1) trace there) ∙ ap (own_steps traces) number) ∙ sym (posts_kept unit))
+      ap (λ (own : List Step). length (posted_in own)) (sym (own_of_trace traces (unit - 1) trace there) ∙ ap (own_steps traces) number) ∙ sym (posts_kept unit)
 
   pub no_posts : (unit : ℕ) → ((1 ≤ unit) × (unit ≤ length traces) → ⊥) → 0 ≡ posted_at unit (steps_to_end order traces)
   no_posts unit out = sym (posts_kept unit ∙ ap (λ (own : List Step). length (posted_in own)) (by (unit == 0) refl))

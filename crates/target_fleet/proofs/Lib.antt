@@ -20,3 +20,5 @@ pub mod TakenLines
 pub mod TakenTurns
 pub mod ToldInUnits
 pub mod TurnsLeave
+pub mod SteppedSoFar
+pub mod FinishTurns

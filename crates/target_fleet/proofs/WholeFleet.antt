@@ -9,7 +9,7 @@ use Rattle.disk_layout.specs.Holds.{HoldsConfig, StandingView, standing_view}
 use Rattle.disk_layout.specs.declared.identity.Identity.{Identity}
 use Rattle.disk_model.specs.Image.{Image}
 use Rattle.disk_model.specs.State.{DiskState, OnlyReads}
-use Rattle.exchange_trace.specs.Steps.{Step}
+use Rattle.exchange_trace.specs.Steps.{Step, steps_of}
 use Rattle.exchange_trace.specs.declared.trace.TraceStep.{TraceStep}
 use Rattle.fleet_link.specs.FleetLinks.{FleetLinkState}
 use Rattle.fleet_trace.specs.FleetPosts.{posts_of_unit}
@@ -41,8 +41,10 @@ use Rattle.target_fleet.specs.Clocks.{own_clocks}
 use Rattle.target_fleet.specs.Ends.{AllEnd, AllLeaveNoMore, EndsDriver, FailsInEnds}
 use Rattle.target_fleet.specs.Fleets.{AllEndInFleet, AllLeaveGood, AsksInBatches, CameToEnd, EndsFleet, EndsInFleet, FailsLater}
 use Rattle.target_fleet.specs.Leaves.{AllLeave}
-use Rattle.target_fleet.specs.Merges.{AreUnits, HaveOwnSteps, KeepsSteps, steps_to_end}
-use Rattle.target_fleet.specs.Runs.{AllStandOn, FleetGoesOn, FleetState, FollowsOnEach, IsFleetReady, RunsInFleet, own_link}
+use Rattle.exchange_trace.specs.Happenings.{DatagramView}
+use Rattle.exchange_trace.specs.Posts.{posted_in}
+use Rattle.target_fleet.specs.Merges.{AreUnits, CountsPosts, HaveOwnSteps, KeepsSteps, steps_to_end}
+use Rattle.target_fleet.specs.Runs.{AllStandOn, CountsPostsAt, FleetGoesOn, FleetState, FollowsOnEach, IsFleetReady, RunsInFleet, own_link}
 use Rattle.target_fleet.specs.Units.{AllDisks, AllOnlyRead}
 use Rattle.target_fleet.specs.declared.outcome.FleetDrive.{FleetDrive}
 use Rattle.target_fleet.specs.declared.outcome.FleetFault.{FleetFault}
@@ -237,6 +239,21 @@ module _ {R K : Type 0} (state : K → DiskState) (may_say : R → LoadHeader �
         let d = driver_at i last.0 last.1 in
         let m = mid_at i last.0 last.1 in
         ((ended i d.0 end.0 trace m.0 last.0 d.1 end.1 e m.1 last.1).own ∙ (on.units i d.0 old.0 m.0 d.1 old.1 m.1).own, (ended i d.0 end.0 trace m.0 last.0 d.1 end.1 e m.1 last.1).ordered)
+
+    counted_at : (counts : List ℕ) → CountsPostsAt link.units link counts → (i : ℕ) (trace : Listed TraceStep) → slice_get traces i ≡ Some trace
+        → slice_get counts i ≡ Some (length (posted_in (steps_of trace.items)))
+    counted_at counts counted i trace e =
+        let within = slice_get_within traces i trace e in
+        let last = there_is new i (let lt : i < length new = omega (arith, within, traces_many, same) in lt) in
+        let end = there_is units i (let lt : i < length units = omega (arith, within, traces_many, units_many) in lt) in
+        let d = driver_at i last.0 last.1 in
+        let m = mid_at i last.0 last.1 in
+        counted i (let many = traces_many ∙ ready.disks_are in let lt : i < link.units = omega (arith, within, many) in lt)
+        ∙ ap (λ (posts : List DatagramView). Some (length posts)) (ready.posted i d.0 d.1 ∙ ap posted_in (sym (ended i d.0 end.0 trace m.0 last.0 d.1 end.1 e m.1 last.1).own))
+
+    pub posts_counted : (counts : List ℕ) → link.units ≤ 8 → CountsPostsAt link.units link counts → CountsPosts traces counts
+    posts_counted counts few counted =
+        let many = traces_many ∙ ready.disks_are in record { few = omega (arith, many, few); counted = counted_at counts counted }
 
     pub fleet_kept : KeepsSteps fleet.order traces
     fleet_kept = steps_kept on.steps on.not_ended fleet.order on.order traces order_is_of_units have_own

@@ -1,5 +1,6 @@
 -- A fleet's trace, taken line by line from those of its units (docs/EXCHANGE.md, "Fleets").
 use Rattle.std.specs.Prelude.{◌≡◌, ℕ, ◌+◌, ◌-◌, ◌≤◌, List, [], ◌∷◌, ◌++◌, fold, length, map, reverse, slice_get, Option, Some, None, Bool, true, false, ◌==◌, if◌then◌else◌, ⊤}
+use Rattle.exchange_trace.specs.Posts.{posted_in}
 use Rattle.exchange_trace.specs.Steps.{Step, steps_of}
 use Rattle.exchange_trace.specs.declared.trace.TraceStep.{TraceStep}
 use Rattle.exchange_trace.specs.declared.trace.TraceStep.TheVariants as trace_lines
@@ -103,3 +104,8 @@ pub record KeepsSteps (order : List Stepped) (traces : List (Listed TraceStep)) 
   pub units : AreUnits (length traces) order
   pub named : (unit : ℕ) → times_stepped unit (reverse order) ≡ length (own_steps traces unit)
   pub ordered : (i : ℕ) (trace : Listed TraceStep) → slice_get traces i ≡ Some trace → IsInOrder trace.items
+
+-- Each unit's trace has so many posts, of eight units at most.
+pub record CountsPosts (traces : List (Listed TraceStep)) (counts : List ℕ) : Type 0 where
+  pub few : length traces ≤ 8
+  pub counted : (i : ℕ) (trace : Listed TraceStep) → slice_get traces i ≡ Some trace → slice_get counts i ≡ Some (length (posted_in (steps_of trace.items)))

@@ -1,5 +1,5 @@
 -- A fleet as it runs on its link (docs/EXCHANGE.md, "Fleets").
-use Rattle.std.specs.Prelude.{◌≡◌, ℕ, ◌+◌, nat_le, ◌&&◌, List, [], ◌∷◌, ◌++◌, length, map, reverse, slice_get, Bool, true, false, Option, Some, None, option_map, if◌then◌else◌}
+use Rattle.std.specs.Prelude.{◌≡◌, ℕ, ◌+◌, ◌<◌, nat_le, ◌&&◌, List, [], ◌∷◌, ◌++◌, length, map, reverse, slice_get, Bool, true, false, Option, Some, None, option_map, if◌then◌else◌}
 use Rattle.accept_rules.specs.Interlocks.{FollowsAccepts}
 use Rattle.accept_rules.specs.Permissions.{Accepts}
 use Rattle.accept_rules.specs.declared.kept.KeptLoad.{KeptLoad}
@@ -150,3 +150,7 @@ abbrev pub FollowsOnEach : (began : FleetLinkState) → SetView → (sets : ℕ 
 FollowsOnEach began shown sets steps =
     (script : List FleetLine) → HasFollowedFleet began.units (fleet_waiting began.units sets) (fleet_asking shown began.units sets) script [] began
     → FollowsFleet began.units (fleet_waiting began.units sets) (fleet_asking shown began.units sets) script steps
+
+-- so many datagrams were posted at each unit before this index
+abbrev pub CountsPostsAt : (index : ℕ) → FleetLinkState → (counts : List ℕ) → Type 0
+CountsPostsAt index link counts = (i : ℕ) → i < index → slice_get counts i ≡ Some (length (posts_of_unit (i + 1) link.posted))

@@ -1,11 +1,11 @@
 //! A fleet's trace, made of those of its units.
-ghost use Rattle.std.specs.Prelude.{◌≡◌, IfOk, OnOk, length, map};
+ghost use Rattle.std.specs.Prelude.{◌≡◌, IfOk, OnOk, length};
 ghost use Rattle.target_fleet.specs.Merges.{begins_step as begins};
 ghost use Rattle.target_fleet.specs.Merges.{AreUnits, IsUnitOf, MergesAll, TakesAll};
 ghost use Rattle.target_fleet.specs.Merges.{TakesNewest, TakesOff};
 ghost use Rattle.target_fleet.specs.SteppingOrders.{stepped_view};
 
-use crate::stepped::Stepped;
+use crate::stepped::{Stepped, SteppingOrder};
 use exchange_trace::TraceStep;
 use fleet_trace::FleetStep;
 use load_base::{List, NoMemory};
@@ -15,12 +15,11 @@ use std::alloc::Global;
 /// stepped, and at last the end. The units' traces are without their ends.
 pub(crate) fn merge(
     alloc: Global,
-    order: &[Stepped],
+    order: &mut SteppingOrder,
     traces: &mut [List<TraceStep>],
 ) -> Result<List<FleetStep>, NoMemory>
-    requires { AreUnits (length traces.old) (map stepped_view order.now) }
-    ensures { IfOk result (λ trace. MergesAll (map stepped_view order.now) traces.old
-        trace.items) }
+    requires { AreUnits (length traces.old) order.old }
+    ensures { IfOk result (λ trace. MergesAll order.old traces.old trace.items) }
 {
     // The newest first.
     let mut lines = Vec::new(alloc);
@@ -51,16 +50,18 @@ fn count_of(traces: &[List<TraceStep>]) -> usize {
 
 /// All steps of this order are taken off the units' traces, the newest first.
 fn take_steps(
-    order: &[Stepped],
+    order: &mut SteppingOrder,
     traces: &mut [List<TraceStep>],
     lines: &mut Vec<FleetStep>,
 ) -> Result<(), NoMemory>
-    requires { AreUnits (length traces.old) (map stepped_view order.now) }
-    ensures { OnOk result (TakesAll (map stepped_view order.now) traces.old lines.old.items
-        lines.new.items) }
+    requires { AreUnits (length traces.old) order.old }
+    ensures { OnOk result (TakesAll order.old traces.old lines.old.items lines.new.items) }
 {
-    'steps: for taken in 0..order.len() {
-        take_newest(order[order.len() - 1 - taken], traces, lines)?;
+    'steps: for _ in 0..order.len() {
+        let Some(stepped) = order.pop() else {
+            return Ok(());
+        };
+        take_newest(stepped, traces, lines)?;
     }
     Ok(())
 }

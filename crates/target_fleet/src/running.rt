@@ -17,7 +17,7 @@ ghost use Rattle.upload_replay.specs.Drivers.{DriverState};
 use crate::asking::{Asked, next_upload, start_of};
 use crate::batches::FleetBatches;
 use crate::posting::post_all;
-use crate::stepped::Stepped;
+use crate::stepped::SteppingOrder;
 use crate::stepping::step_at;
 use crate::waiting::waits_of;
 use accept_rules::Rule;
@@ -39,20 +39,18 @@ pub(crate) struct Units<'m, R: Rule> {
     /// From unit 1 on.
     pub(crate) drivers: Vec<Driver<'m, R>>,
     /// What each step was of, in their order.
-    pub(crate) order: Vec<Stepped>,
+    pub(crate) order: SteppingOrder,
     pub(crate) batches: FleetBatches,
 }
 
 impl<'m, R: Rule> Model for Units<'m, R> {
-    ghost use Rattle.std.specs.Prelude.{map};
     ghost use Rattle.target_fleet.specs.Runs.{FleetState};
-    ghost use Rattle.target_fleet.specs.SteppingOrders.{stepped_view};
 
     ghost Value = { FleetState R };
 
     ghost view = { λ units. record {
       drivers = units.drivers.items;
-      order = map stepped_view units.order.items;
+      order = units.order;
       running = units.batches.running;
       ended = units.batches.ended.items;
     } };
@@ -99,8 +97,44 @@ pub(crate) fn run_to_end<K: Power, R: Rule>(
 }
 
 /// A turn: what the link gives comes to both ends of its unit, and what they post goes to the link.
-/// Whether it was the end.
+/// Whether it was the end. In most a `finish` delivers a datagram, whatever waits.
 fn turn<K: Power, R: Rule>(
+    link: &mut FleetLink,
+    disks: &mut [K],
+    media: &MediaSet,
+    units: &mut Units<'_, R>,
+) -> Result<bool, NoMemory>
+    requires few { link.old.units ≤ 8 }
+    requires ready { IsFleetReady K.state link.old units.old disks.old }
+    requires batches { AreBatchesReady (set_view media.now) units.old }
+    // With Ok.
+    ensures ready { OnOk result (IsFleetReady K.state link.new units.new disks.new) }
+    ensures batches { OnOk result (AreBatchesReady (set_view media.now) units.new) }
+    ensures goes_on { (rule : R) (began : FleetLinkState) (first : List K)
+        → FleetGoesOn K.state R.may_say rule (set_view media.now) false began link.old units.old
+        first disks.old
+        → IfOk result (λ ended. FleetGoesOn K.state R.may_say rule (set_view media.now) ended began
+        link.new units.new first disks.new) }
+    // Whatever it answers.
+    ensures count { link.new.units ≡ link.old.units }
+    ensures same { length disks.new ≡ length disks.old }
+    ensures leaves { (rule : R) (began : FleetLinkState) (first : List K)
+        → FleetGoesOn K.state R.may_say rule (set_view media.now) false began link.old units.old
+        first disks.old
+        → OnErr result (AllLeave K.state R.may_say rule (set_view media.now) began link.new first
+        disks.new) }
+{
+    match link.next_of_finish() {
+        Some((unit, happening)) => {
+            step_unit(link, disks, units, unit, false, happening)?;
+            Ok(false)
+        }
+        None => waiting_turn(link, disks, media, units),
+    }
+}
+
+/// A turn for which it is looked up which sides wait, and which upload may be asked.
+fn waiting_turn<K: Power, R: Rule>(
     link: &mut FleetLink,
     disks: &mut [K],
     media: &MediaSet,
@@ -178,10 +212,8 @@ fn begin_batch<R: Rule>(
     requires { AreBatchesReady (set_view media.now) units.old }
     ensures { OnOk result (BeginsBatch (set_view media.now) part units.old units.new) }
 {
-    units.order.reserve(1)?;
     units.batches.begin(media, &units.drivers, part)?;
-    units.order.push_reserved(Stepped::Batch(part));
-    Ok(())
+    units.order.push_batch(part)
 }
 
 /// The upload that was asked starts at this unit: that to this target of the running batch.
@@ -245,7 +277,7 @@ fn step_unit<K: Power, R: Rule>(
 {
     let index = unit as usize - 1;
     let posts = step_at(&mut units.drivers, disks, index, happening)?;
-    match units.order.push(Stepped::Unit { unit, asked }) {
+    match units.order.push_unit(unit, asked) {
         Ok(()) => post_all(link, unit, posts),
         Err(_) => {
             // For the proof: dropped by a call, not by scope.

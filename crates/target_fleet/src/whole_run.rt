@@ -13,7 +13,9 @@ use crate::batches::FleetBatches;
 use crate::booting::boot_all;
 use crate::ending::{Ends, end_all};
 use crate::outcome::{FleetDrive, FleetFault};
+use crate::posting::posted_counts;
 use crate::running::{Units, run_to_end};
+use crate::stepped::SteppingOrder;
 use crate::trace::FleetTrace;
 use accept_rules::{Interlock, Rule};
 use bank_store::a_power_loss_takes_only_work;
@@ -78,7 +80,7 @@ pub fn fleet<K: Power, R: Rule>(
     let mut units = Units {
         alloc,
         drivers,
-        order: Vec::new(alloc),
+        order: SteppingOrder::new(alloc),
         batches: FleetBatches::new(alloc),
     };
     match run_to_end(link, disks, media, &mut units) {
@@ -102,11 +104,12 @@ pub fn fleet<K: Power, R: Rule>(
             return Err(FleetFault::Memory);
         }
     }
+    let posted = posted_counts(link);
     match end_all(alloc, disks, drivers) {
         Ok(ends) => {
             let Ends { units, traces } = ends;
             Ok(FleetDrive {
-                trace: FleetTrace::of_units(order, traces),
+                trace: FleetTrace::of_units(order, traces, posted),
                 units: List::from(units),
                 batches: batches.into_ended(),
             })
