@@ -1,5 +1,5 @@
 -- How a store goes on over several calls.
-use Rattle.std.proofs.Common.{◌≡◌, ◌+◌, Result, Ok, Err, IfOk, OnOk, inl, inr, refl, ap, ◌∙◌, arith}
+use Rattle.std.proofs.Common.{◌≡◌, ℕ, ◌+◌, List, length, Result, Ok, Err, IfOk, OnOk, inl, inr, refl, sym, ap, subst, ◌∙◌, arith}
 use Rattle.std.proofs.lemmas.Result.{IfOk-weaker}
 use Rattle.disk_model.proofs.MomentLemmas.{power_kept}
 use Rattle.disk_model.specs.State.{DiskState, KeepsCounts}
@@ -9,16 +9,19 @@ use Rattle.bank_store.specs.Fits.{Fits}
 use Rattle.bank_store.specs.Keeps.{Continues}
 use Rattle.bank_store.proofs.KnownLemmas.{knows_on}
 use Rattle.bank_store.specs.Store.{IsPrepared}
-use Rattle.session_rules.specs.TargetRows.{Writes_progress}
+use Rattle.session_rules.specs.TargetRows as rows
+use Rattle.session_rules.specs.TargetRows.{Writes_completion, Writes_progress}
 use Rattle.session_rules.specs.Uploads.{UploadView}
 use Rattle.disk_layout.specs.declared.active.Active.{Active}
+use Rattle.disk_layout.specs.Manifest.{LoadEntry}
 use Rattle.disk_layout.specs.Slots.{bank_number, other_bank, other_slot, slot_offset}
 use Rattle.load_intake.specs.declared.down.Down.{Down}
 use Rattle.load_intake.specs.declared.ended.UploadEnd.{UploadEnd}
 use Rattle.load_intake.specs.declared.finished.Finished.{Finished}
 use Rattle.load_intake.specs.declared.finished.Finished.TheVariants as finished
-use Rattle.load_intake.specs.Intakes.{BeginsNext, row_seen}
-use Rattle.load_intake.specs.Stores.{EndsFile, GivesUp, StoreGoesOn, GoesOnInStep, Installs, Leaves, Writes}
+use Rattle.load_intake.specs.Intakes.{BeginsNext, HasSpareFor, end_view, row_seen}
+use Rattle.load_intake.specs.Keeping.{entries}
+use Rattle.load_intake.specs.Stores.{EndsFile, GivesUp, StoreGoesOn, GoesOnInStep, Installs, InstallsLoads, Leaves, Writes}
 
 -- a call that makes none of the disk
 pub continued : (before after : Store) (disk : DiskState) → Continues before after → IsRunning disk → StoreGoesOn before after disk disk
@@ -54,11 +57,29 @@ same_on : (store : Store) (disk : DiskState) → IsRunning disk → StoreGoesOn 
 same_on store disk running = record { active = record { size = refl; active = refl; known = refl }; running = running; fits = λ f. f; works = λ w. w }
 
 -- a load is whole, and nothing was written
-pub goes_on_here : (f : Finished) (u : UploadView) (store : Store) (disk : DiskState) → row_seen f ≡ Writes_progress u → BeginsNext f → GoesOnInStep f store → IsRunning disk → EndsFile f store store disk disk
-goes_on_here (finished.MoreFiles intake) u store disk row begins step running = record { begins = begins; leaves = record { in_step = step; goes_on = same_on store disk running } }
-goes_on_here (finished.NextLoad intake) u store disk row begins step running = record { begins = begins; leaves = record { in_step = step; goes_on = same_on store disk running } }
-goes_on_here (finished.Stopped end) u store disk row begins step running = absurd cc
-goes_on_here (finished.Installed end loads) u store disk row begins step running = absurd cc
+pub goes_on_here : (n : ℕ) (f : Finished) (u : UploadView) (store : Store) (disk : DiskState) → row_seen f ≡ Writes_progress u → BeginsNext f → GoesOnInStep f store → IsRunning disk → EndsFile n f store store disk disk
+goes_on_here n (finished.MoreFiles intake) u store disk row begins step running = record { begins = begins; spare = tt; leaves = record { in_step = step; goes_on = same_on store disk running } }
+goes_on_here n (finished.NextLoad intake) u store disk row begins step running = record { begins = begins; spare = tt; leaves = record { in_step = step; goes_on = same_on store disk running } }
+goes_on_here n (finished.Stopped end) u store disk row begins step running = absurd cc
+goes_on_here n (finished.Installed end loads) u store disk row begins step running = absurd cc
+
+-- all loads are installed
+pub installs_here : (n : ℕ) (f : Finished) (end : rows.UploadEnd) (loads : List LoadEntry) (before after : Store) (old new : DiskState) → row_seen f ≡ Writes_completion end loads → length end.request ≡ length loads → HasSpareFor n f
+    → InstallsLoads loads before after old new → EndsFile n f before after old new
+installs_here n (finished.MoreFiles intake) end loads before after old new row all spare is = absurd cc
+installs_here n (finished.NextLoad intake) end loads before after old new row all spare is = absurd cc
+installs_here n (finished.Stopped stop) end loads before after old new row all spare is = absurd cc
+installs_here n (finished.Installed stop more) end loads before after old new row all spare is =
+    let same : entries more.loads.items ≡ loads = cc in
+    let requested : end_view stop ≡ end = cc in
+    record {
+      begins = tt;
+      spare = spare;
+      leaves = record {
+        all = ap (λ (e : rows.UploadEnd). length e.request) requested ∙ all ∙ ap (λ (l : List LoadEntry). length l) (sym same);
+        loads_are = subst (λ (l : List LoadEntry). InstallsLoads l before after old new) (sym same) is;
+      };
+    }
 
 -- ---- the end of a file after other calls
 
@@ -86,15 +107,15 @@ leaves_after (finished.Installed end loads) a b c d e f first next = record {
   };
 }
 
-pub ends_after : (r : Result Finished Down) (a b c : Store) (d e f : DiskState) → StoreGoesOn a b d e → IfOk r (λ x. EndsFile x b c e f) → IfOk r (λ x. EndsFile x a c d f)
-ends_after r a b c d e f first ends = IfOk-weaker r (λ x. EndsFile x b c e f) (λ x. EndsFile x a c d f) (λ x h. record { begins = h.begins; leaves = leaves_after x a b c d e f first h.leaves }) ends
+pub ends_after : (n : ℕ) (r : Result Finished Down) (a b c : Store) (d e f : DiskState) → StoreGoesOn a b d e → IfOk r (λ x. EndsFile n x b c e f) → IfOk r (λ x. EndsFile n x a c d f)
+ends_after n r a b c d e f first ends = IfOk-weaker r (λ x. EndsFile n x b c e f) (λ x. EndsFile n x a c d f) (λ x h. record { begins = h.begins; spare = h.spare; leaves = leaves_after x a b c d e f first h.leaves }) ends
 
-pub stops_there : (end : UploadEnd) (before after : Store) (disk : DiskState) → Continues before after → IsPrepared after → IsRunning disk → EndsFile (finished.Stopped end) before after disk disk
-stops_there end before after disk c prepared running = record { begins = tt; leaves = gives_up before after disk c prepared running }
+pub stops_there : (n : ℕ) (end : UploadEnd) (before after : Store) (disk : DiskState) → Continues before after → IsPrepared after → IsRunning disk → EndsFile n (finished.Stopped end) before after disk disk
+stops_there n end before after disk c prepared running = record { begins = tt; spare = tt; leaves = gives_up before after disk c prepared running }
 
 -- or after a call that went on
-pub stops_after : (end : UploadEnd) (before mid after : Store) (old new : DiskState) → StoreGoesOn before mid old new → Continues mid after → IsPrepared after → EndsFile (finished.Stopped end) before after old new
-stops_after end before mid after old new first c prepared = record { begins = tt; leaves = leaves_after (finished.Stopped end) before mid after old new new first (gives_up mid after new c prepared first.running) }
+pub stops_after : (n : ℕ) (end : UploadEnd) (before mid after : Store) (old new : DiskState) → StoreGoesOn before mid old new → Continues mid after → IsPrepared after → EndsFile n (finished.Stopped end) before after old new
+stops_after n end before mid after old new first c prepared = record { begins = tt; spare = tt; leaves = leaves_after (finished.Stopped end) before mid after old new new first (gives_up mid after new c prepared first.running) }
 
 -- ---- one call of the disk after another
 

@@ -2,6 +2,7 @@
 -- of a bank they need (docs/EXCHANGE.md, "Upload").
 use Rattle.std.specs.Prelude.{◌≡◌, ℕ, ◌+◌, ◌≤◌, List, length, bytes_eq, nat_le, Option, Some, None, slice_get}
 use Rattle.load_header.specs.Header.{HeaderView}
+use Rattle.load_header.specs.HeaderFields.{HeaderSpells}
 use Rattle.load_protocol_files.specs.declared.lur.Wanted.{Wanted}
 use Rattle.disk_layout.specs.declared.identity.Identity.{Identity}
 use Rattle.disk_layout.specs.Holds.{Outline}
@@ -38,6 +39,12 @@ loads_known active w h = length w.request + length (kept_at active (upload_of w 
 -- and how many bytes of a bank they need, where those that were asked for need so many
 abbrev pub need_known : (active : List LoadEntry) → WholeView → HeaderView → (need : ℕ) → ℕ
 need_known active w h need = need + listed_needs (kept_at active (upload_of w None) h)
+
+-- These bytes are all of a header that spells these values, and as many as a header may have.
+pub record IsWholeHeader (h : HeaderView) (bytes : List ℕ) : Type 0 where
+  pub spelled : HeaderSpells h bytes
+  pub least : 4 ≤ length bytes
+  pub most : length bytes ≤ 65536
 
 -- what is kept of a header that isn't too long
 abbrev pub whole_buffer : List ℕ → Buffer

@@ -98,3 +98,9 @@ intake_of w place = record { upload = upload_of w (open_load place); arriving = 
 -- what waits there is empty
 abbrev pub WaitsEmpty : Place → Type 0
 WaitsEmpty place = bytes_held place ≡ upload_kept (open_load place) (arriving_at place)
+
+-- After more of a file its place is that of the same file of the same load.
+pub record StaysAtFile (old new : Place) : Type 0 where
+  pub load : open_load new ≡ open_load old
+  pub waits : WaitsEmpty old → WaitsEmpty new
+  pub next : IsOfNext (open_load old) (arriving_at old) → IsOfNext (open_load new) (arriving_at new)

@@ -1,7 +1,8 @@
 -- How an intake and the store that it fills go together (docs/EXCHANGE.md, "Upload"; docs/DISK.md).
-use Rattle.std.specs.Prelude.{◌≡◌, ◌⊎◌, ℕ, ◌+◌, ◌-◌, ◌≤◌, ⊤, Some, None, List, [], ◌∷◌, ◌++◌, length, Result, OnOk, IsErrOf, false}
+use Rattle.std.specs.Prelude.{◌≡◌, ◌⊎◌, ℕ, ◌+◌, ◌-◌, ◌<◌, ◌≤◌, ⊤, Some, None, List, [], ◌∷◌, ◌++◌, length, Result, OnErr, OnOk, IsErrOf, false}
 use Rattle.std.specs.List.{AllByRecursion, concat, flat_map}
 use Rattle.load_base.specs.PartText.{IsPartText}
+use Rattle.load_header.specs.Header.{HeaderView}
 use Rattle.field_grammar.specs.Fields.{number_fields}
 use Rattle.disk_model.specs.State.{DiskState, KeepsCounts}
 use Rattle.disk_layout.specs.DiskReads.{HasDiskCause, IsOutOfMemory}
@@ -16,7 +17,7 @@ use Rattle.bank_store.specs.declared.stage.Filling.{Filling}
 use Rattle.bank_store.specs.DiskWrites.{TimeGoesOn, IsRunning}
 use Rattle.bank_store.specs.Fits.{Fits, Works}
 use Rattle.bank_store.specs.Known.{KnowsActive}
-use Rattle.bank_store.specs.Store.{AwaitsFile, AwaitsLoad, IsFilling, IsKeptLoad, IsPrepared, SameActive, active_bank, active_sequence, active_slot, bank_size_of, body_of, manifest_length}
+use Rattle.bank_store.specs.Store.{AwaitsFile, AwaitsLoad, IsFilling, IsKeptLoad, IsPrepared, SameActive, active_bank, active_sequence, active_slot, bank_size_of, body_of, known_of, manifest_length}
 use Rattle.session_rules.specs.KeptLoads.{with_kept_entries}
 use Rattle.session_rules.specs.Uploads.{OpenLoadView, files_of, need_of, planned_load}
 use Rattle.session_rules.specs.TargetRows.{Arriving, Kept_bytes, Kept_sums, load_entry_of}
@@ -26,9 +27,9 @@ use Rattle.load_intake.specs.declared.down.Down.TheVariants as downs
 use Rattle.load_intake.specs.declared.ended.UploadEnd.{UploadEnd}
 use Rattle.load_intake.specs.declared.finished.Finished.{Finished}
 use Rattle.load_intake.specs.declared.finished.Finished.TheVariants as finished
-use Rattle.load_intake.specs.Intakes.{BeginsNext}
+use Rattle.load_intake.specs.Intakes.{BeginsNext, HasSpareFor}
 use Rattle.load_intake.specs.Keeping.{entries, kept_at, kept_planned}
-use Rattle.load_intake.specs.Kept.{IsIntake, loads_so_far, loads_planned, files_missing, bytes_taken}
+use Rattle.load_intake.specs.Kept.{IsAccepted, IsIntake, loads_so_far, loads_planned, files_missing, bytes_taken}
 use Rattle.load_intake.specs.States.{IntakeState, WholeView, upload_of}
 
 -- what a manifest says of a load of which this many files are still to end
@@ -92,6 +93,16 @@ pub record CanKeepLoad (store : Store) (number : ℕ) (load : LoadEntry) : Type 
   pub awaits : AwaitsLoad store
   pub room : HasRoomFor (entries_length load.files) store
 
+-- A load can begin after these with its header of this size: a manifest can count it and its files, and the bank has room for the
+-- header.
+pub record CanWriteHeader (store : Store) (loads : List LoadEntry) (wanted : Wanted) (h : HeaderView) (size : ℕ) : Type 0 where
+  pub has : StoreHas store loads 0 0
+  pub few : length loads < 32
+  pub files : length (files_of h) ≤ 255
+  pub room : total_length loads + size ≤ bank_size_of store
+  pub short : size ≤ 65536
+  pub part : length wanted.part ≡ 15
+
 -- Beside so many loads that were asked for, and those that are planned, these can be kept: a manifest can count them, and all fit
 -- the bank.
 pub record HasRoomToKeep (store : Store) (requested : ℕ) (planned kept : List LoadEntry) : Type 0 where
@@ -122,6 +133,12 @@ GoesOnInStep finished store = ⊤
 pub record FileArrived (st : IntakeState) (counted : ℕ) (store : Store) (disk : DiskState) : Type 0 where
   pub keeps : IsIntake st counted
   pub in_step : IsInStep st store
+  pub running : IsRunning disk
+
+-- The premises of a call once it was accepted.
+pub record FileAccepted (w : WholeView) (l : OpenLoadView) (store : Store) (disk : DiskState) : Type 0 where
+  pub load : IsAccepted w l
+  pub has : HasAccepted w l store
   pub running : IsRunning disk
 
 -- ---- what calls do to the store and the disk
@@ -172,10 +189,11 @@ Leaves (finished.NextLoad intake) before after old new = StaysInStep intake befo
 Leaves (finished.Stopped end) before after old new = GivesUp before after old new
 Leaves (finished.Installed end loads) before after old new = InstallsAll end (entries loads.loads.items) before after old new
 
--- What the end of a file comes to: an intake that goes on begins with its next file, and this is left of the store and
--- the disk.
-pub record EndsFile (finished : Finished) (before after : Store) (old new : DiskState) : Type 0 where
+-- What the end of a file comes to, where so many loads are active: an intake that goes on begins with its next file, the list
+-- of what is installed has room for the active loads that are kept with it, and this is left of the store and the disk.
+pub record EndsFile (active : ℕ) (finished : Finished) (before after : Store) (old new : DiskState) : Type 0 where
   pub begins : BeginsNext finished
+  pub spare : HasSpareFor active finished
   pub leaves : Leaves finished before after old new
 
 -- No call of the disk was refused, and it takes calls.
@@ -196,6 +214,13 @@ pub record Writes {T : Type 0} (old new : DiskState) (result : Result T Down) : 
   pub cause : HasDiskCause downs.DiskFailed old new result
   pub counts : OnOk result (KeepsCounts old new)
   pub memory : IsErrOf result downs.Memory → RunsOutOfMemory old new
+
+-- What a call on a store and its disk keeps, whatever it answers: its bank has the size that it had, a failure leaves what the
+-- store knows of the active loads, and the disk was written as it says.
+pub record KeepsStore {T : Type 0} (before after : Store) (old new : DiskState) (result : Result T Down) : Type 0 where
+  pub size : bank_size_of after ≡ bank_size_of before
+  pub known : OnErr result (known_of after ≡ known_of before)
+  pub writes : Writes old new result
 
 -- what a failure of the store comes to
 abbrev pub down_of : StoreFault → Down

@@ -1,18 +1,16 @@
 //! What a file comes to that arrived whole.
 ghost use Rattle.std.specs.Prelude.{◌≡◌, ◌+◌, ◌<◌, ◌≤◌, [], ◌∷◌, ◌++◌, ℕ, List as Items, None};
 ghost use Rattle.std.specs.Prelude.{Some};
-ghost use Rattle.std.specs.Prelude.{IfOk, OnErr, length};
+ghost use Rattle.std.specs.Prelude.{IfOk, length};
 ghost use Rattle.crc_fields.specs.CheckSums.{crc32_of};
 ghost use Rattle.accept_rules.specs.Interlocks.{FollowsAccepts};
 ghost use Rattle.accept_rules.specs.Permissions.{Accepts};
-ghost use Rattle.bank_store.specs.DiskWrites.{IsRunning};
 ghost use Rattle.bank_store.specs.Given.{Given, loads_of};
 ghost use Rattle.bank_store.specs.Keeps.{Continues};
-ghost use Rattle.bank_store.specs.Store.{IsIdle, IsPrepared, bank_size_of, known_of};
+ghost use Rattle.bank_store.specs.Store.{IsIdle, IsPrepared, bank_size_of};
 ghost use Rattle.bank_store.specs.declared.store.Store.{Store as StoreState};
 ghost use Rattle.disk_layout.specs.Holds.{Outline, StandingView};
 ghost use Rattle.load_header.specs.Header.{header_view};
-ghost use Rattle.load_header.specs.HeaderFields.{HeaderSpells};
 ghost use Rattle.session_rules.specs.Buffers.{empty_buffer};
 ghost use Rattle.session_rules.specs.KeptLoads.{types_in, types_of};
 ghost use Rattle.session_rules.specs.TargetLog.{standing_after};
@@ -24,15 +22,16 @@ ghost use Rattle.session_rules.specs.Uploads.{Complete, More_files, Next_load, c
 ghost use Rattle.session_rules.specs.Uploads.{Upload, files_of, next_with, upload_view};
 ghost use Rattle.load_intake.specs.Contents.{BringsRow, BringsTo, GoesTo, InstallsRow};
 ghost use Rattle.load_intake.specs.Contents.{IsGiven, IsOf};
-ghost use Rattle.load_intake.specs.Intakes.{BeginsNext, HasSpareFor, end_view, row_seen};
+ghost use Rattle.load_intake.specs.Intakes.{BeginsNext, end_view, row_seen};
 ghost use Rattle.load_intake.specs.Keeping.{IsActive, entries};
 ghost use Rattle.load_intake.specs.Kept.{IsAccepted, intake_at};
-ghost use Rattle.load_intake.specs.Judging.{header_row, whole_buffer, whole_header_row};
+ghost use Rattle.load_intake.specs.Judging.{IsWholeHeader, header_row, whole_buffer};
+ghost use Rattle.load_intake.specs.Judging.{whole_header_row};
 ghost use Rattle.load_intake.specs.Places.{next_seen};
 ghost use Rattle.load_intake.specs.States.{upload_of};
-ghost use Rattle.load_intake.specs.Stores.{FileArrived, EndsFile, GoesOnInStep, HasAccepted};
+ghost use Rattle.load_intake.specs.Stores.{EndsFile, FileAccepted, FileArrived, GoesOnInStep};
+ghost use Rattle.load_intake.specs.Stores.{HasAccepted, KeepsStore};
 ghost use Rattle.bank_store.specs.Known.{KnowsActive};
-ghost use Rattle.load_intake.specs.Stores.{Writes};
 
 use crate::down::Down;
 use crate::ended::{NewLoads, UploadEnd};
@@ -74,9 +73,8 @@ pub(crate) fn header_arrived<K: Disk, R: Rule>(
         (Reads_file (upload_of whole None)) (Kept_bytes buffer)
         (done_move accepts o (Reads_file (upload_of whole None))
         (Kept_bytes buffer))) }
-    ensures ends { IfOk result (λ finished. EndsFile finished store.old store.new
-        (K.state disk.old) (K.state disk.new)) }
-    ensures spare { IfOk result (λ finished. HasSpareFor (length active.now) finished) }
+    ensures ends { IfOk result (λ finished. EndsFile (length active.now) finished store.old
+        store.new (K.state disk.old) (K.state disk.new)) }
     ensures brings { (accepts : Accepts) → FollowsAccepts R.may_say interlock.now accepts
         → (o : Outline) → IsActive o identity.now (entries active.now)
         → (s : StandingView) (u : Upload) (arrived : Items ℕ)
@@ -85,9 +83,8 @@ pub(crate) fn header_arrived<K: Disk, R: Rule>(
         → BringsRow (K.state disk.old) store.new (K.state disk.new) s
         (row_moved (Reads_file u) arrived (done_move accepts o
         (Reads_file (upload_of whole None)) (Kept_bytes buffer))) result }
-    ensures size { bank_size_of store.new ≡ bank_size_of store.old }
-    ensures known { OnErr result (known_of store.new ≡ known_of store.old) }
-    ensures writes { Writes (K.state disk.old) (K.state disk.new) result }
+    ensures keeps { KeepsStore store.old store.new (K.state disk.old) (K.state disk.new)
+        result }
 {
     // For the proof: does nothing.
     header_laws();
@@ -139,24 +136,21 @@ fn header_read<K: Disk, R: Rule>(
         whole.need store.old (K.state disk.old) }
     requires active { KnowsActive store.old (entries active.now) }
     requires bank { identity.now.bank ≡ bank_size_of store.old }
-    requires spelled { HeaderSpells (header_view header) buffer.prefix }
-    requires short { (4 ≤ length buffer.prefix) × (length buffer.prefix ≤ 65536) }
+    requires header { IsWholeHeader (header_view header) buffer.prefix }
     ensures row { (accepts : Accepts) → FollowsAccepts R.may_say interlock.now accepts
         → (o : Outline) → IsActive o identity.now (entries active.now)
         → IfOk result (λ finished. row_seen finished ≡ header_row accepts o whole
         (header_view header) buffer.prefix) }
-    ensures ends { IfOk result (λ finished. EndsFile finished store.old store.new
-        (K.state disk.old) (K.state disk.new)) }
-    ensures spare { IfOk result (λ finished. HasSpareFor (length active.now) finished) }
+    ensures ends { IfOk result (λ finished. EndsFile (length active.now) finished store.old
+        store.new (K.state disk.old) (K.state disk.new)) }
     ensures brings { (accepts : Accepts) → FollowsAccepts R.may_say interlock.now accepts
         → (o : Outline) → IsActive o identity.now (entries active.now)
         → (s : StandingView) (u : Upload) → upload_of whole None ≡ upload_view u
         → InstallsRow store.old (K.state disk.old) s (Reads_file u) buffer.prefix
         → BringsRow (K.state disk.old) store.new (K.state disk.new) s
         (whole_header_row accepts o u (header_view header) buffer.prefix) result }
-    ensures size { bank_size_of store.new ≡ bank_size_of store.old }
-    ensures known { OnErr result (known_of store.new ≡ known_of store.old) }
-    ensures writes { Writes (K.state disk.old) (K.state disk.new) result }
+    ensures keeps { KeepsStore store.old store.new (K.state disk.old) (K.state disk.new)
+        result }
 {
     let wanted = *whole.next_wanted();
     let bytes = buffer.prefix();
@@ -184,7 +178,7 @@ fn header_read<K: Disk, R: Rule>(
     }
     let whole = whole.with_need(need as u32);
     let load = OpenLoad::new(whole.alloc(), wanted, header, size, crc);
-    go_on(whole, load, sum, buffer, next, active, store, disk)
+    after_file(whole, load, sum, buffer, next, active, store, disk)
 }
 
 /// The check sum of a load of which this header was taken: all but its last 4 bytes, where the
@@ -215,9 +209,8 @@ pub(crate) fn file_arrived<K: Disk>(
     ensures row { (accepts : Accepts) (o : Outline) → IfOk result (λ finished.
         row_seen finished ≡ view_moved (Reads_file (upload_of whole (Some load))) (Kept_sums sums)
         (done_move accepts o (Reads_file (upload_of whole (Some load))) (Kept_sums sums))) }
-    ensures ends { IfOk result (λ finished. EndsFile finished store.old store.new
-        (K.state disk.old) (K.state disk.new)) }
-    ensures spare { IfOk result (λ finished. HasSpareFor (length active.now) finished) }
+    ensures ends { IfOk result (λ finished. EndsFile (length active.now) finished store.old
+        store.new (K.state disk.old) (K.state disk.new)) }
     ensures brings { (accepts : Accepts) (o : Outline) (s : StandingView)
         (u : Upload) (arrived : Items ℕ)
         → IsOf (intake_at whole (Some load) (Kept_sums sums)) u arrived
@@ -225,9 +218,8 @@ pub(crate) fn file_arrived<K: Disk>(
         → BringsRow (K.state disk.old) store.new (K.state disk.new) s
         (row_moved (Reads_file u) arrived (done_move accepts o
         (Reads_file (upload_of whole (Some load))) (Kept_sums sums))) result }
-    ensures size { bank_size_of store.new ≡ bank_size_of store.old }
-    ensures known { OnErr result (known_of store.new ≡ known_of store.old) }
-    ensures writes { Writes (K.state disk.old) (K.state disk.new) result }
+    ensures keeps { KeepsStore store.old store.new (K.state disk.old) (K.state disk.new)
+        result }
 {
     let next = load.next_in(&whole);
     if let Some(reason) = load.verdict(next, &sums) {
@@ -238,7 +230,7 @@ pub(crate) fn file_arrived<K: Disk>(
     let file = load.next_file(sums.count());
     storing::end_file(store, file.name);
     let load = load.with_file(file, sums.load_crc())?;
-    go_on(
+    after_file(
         whole,
         load,
         sums.into_load_crc(),
@@ -251,7 +243,7 @@ pub(crate) fn file_arrived<K: Disk>(
 }
 
 /// A file was accepted, and written. The buffer is emptied for the next header.
-fn go_on<K: Disk>(
+fn after_file<K: Disk>(
     whole: Whole,
     load: OpenLoad,
     sum: Crc32,
@@ -261,24 +253,20 @@ fn go_on<K: Disk>(
     store: &mut Store,
     disk: &mut K,
 ) -> Result<Finished, Down>
-    requires accepted { IsAccepted whole load }
-    requires has { HasAccepted whole load store.old }
+    requires accepted { FileAccepted whole load store.old (K.state disk.old) }
     requires active { KnowsActive store.old (entries active.now) }
     requires next { next_seen next ≡ next_with (upload_of whole None) load.header
         (length load.files) }
     requires sum { sum ≡ load.crc }
-    requires running { IsRunning (K.state disk.old) }
     ensures row { IfOk result (λ finished. row_seen finished
         ≡ placed_view (upload_of whole None) load (next_seen next)) }
-    ensures ends { IfOk result (λ finished. EndsFile finished store.old store.new
-        (K.state disk.old) (K.state disk.new)) }
-    ensures spare { IfOk result (λ finished. HasSpareFor (length active.now) finished) }
+    ensures ends { IfOk result (λ finished. EndsFile (length active.now) finished store.old
+        store.new (K.state disk.old) (K.state disk.new)) }
     ensures goes_to { (s : StandingView) (g : Given) → IsGiven store.old (K.state disk.old) s g
         → types_in (loads_of g) ≡ types_of (whole.loads ++ load_entry_of load ∷ [])
         → GoesTo (next_seen next) (K.state disk.old) store.new (K.state disk.new) s g result }
-    ensures size { bank_size_of store.new ≡ bank_size_of store.old }
-    ensures known { OnErr result (known_of store.new ≡ known_of store.old) }
-    ensures writes { Writes (K.state disk.old) (K.state disk.new) result }
+    ensures keeps { KeepsStore store.old store.new (K.state disk.old) (K.state disk.new)
+        result }
 {
     buffer.clear();
     match next {
@@ -331,24 +319,20 @@ fn complete<K: Disk>(
     store: &mut Store,
     disk: &mut K,
 ) -> Result<Finished, Down>
-    requires accepted { IsAccepted whole load }
-    requires has { HasAccepted whole load store.old }
+    requires accepted { FileAccepted whole load store.old (K.state disk.old) }
     requires active { KnowsActive store.old (entries active.now) }
     requires all { length load.files ≡ length (files_of load.header) }
     requires last { length whole.loads + 1 ≡ length whole.request }
-    requires running { IsRunning (K.state disk.old) }
     ensures row { IfOk result (λ finished. row_seen finished
         ≡ placed_view (upload_of whole None) load Complete) }
-    ensures ends { IfOk result (λ finished. EndsFile finished store.old store.new
-        (K.state disk.old) (K.state disk.new)) }
-    ensures spare { IfOk result (λ finished. HasSpareFor (length active.now) finished) }
+    ensures ends { IfOk result (λ finished. EndsFile (length active.now) finished store.old
+        store.new (K.state disk.old) (K.state disk.new)) }
     ensures brings { (s : StandingView) (g : Given) → IsGiven store.old (K.state disk.old) s g
         → types_in (loads_of g) ≡ types_of (whole.loads ++ load_entry_of load ∷ [])
         → BringsTo (K.state disk.old) store.new (K.state disk.new) s
         (standing_after s (loads_of g)) Over [] result }
-    ensures size { bank_size_of store.new ≡ bank_size_of store.old }
-    ensures known { OnErr result (known_of store.new ≡ known_of store.old) }
-    ensures writes { Writes (K.state disk.old) (K.state disk.new) result }
+    ensures keeps { KeepsStore store.old store.new (K.state disk.old) (K.state disk.new)
+        result }
 {
     let added = whole.with_load(&load);
     // For the proof: dropped by a call, not by scope.

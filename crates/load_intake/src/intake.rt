@@ -1,9 +1,9 @@
 //! An upload at its target.
 ghost use Rattle.std.specs.Prelude.{◌≡◌, ◌+◌, ◌<◌, ◌≤◌, ◌++◌, [], ℕ, List as Items};
-ghost use Rattle.std.specs.Prelude.{length, IfOk, OnErr, OnOk};
+ghost use Rattle.std.specs.Prelude.{length, IfOk, OnOk};
 ghost use Rattle.accept_rules.specs.Permissions.{Accepts};
 ghost use Rattle.bank_store.specs.DiskWrites.{IsRunning};
-ghost use Rattle.bank_store.specs.Store.{IsPrepared, IsSpent, bank_size_of, known_of};
+ghost use Rattle.bank_store.specs.Store.{IsPrepared, IsSpent, bank_size_of};
 ghost use Rattle.accept_rules.specs.Interlocks.{FollowsAccepts};
 ghost use Rattle.disk_layout.specs.Holds.{Outline, StandingView};
 ghost use Rattle.session_rules.specs.Uploads.{Upload, next_name};
@@ -15,11 +15,11 @@ ghost use Rattle.session_rules.specs.TargetRows.{new_upload, new_upload_view, ro
 ghost use Rattle.session_rules.specs.TargetRows.{view_moved};
 ghost use Rattle.load_intake.specs.Contents.{BringsRow, BringsTo, InstallsRow, IsOf};
 ghost use Rattle.load_intake.specs.Held.{contents_kept};
-ghost use Rattle.load_intake.specs.Intakes.{HasSpareFor, IsFresh, end_view, row_seen, with_more};
+ghost use Rattle.load_intake.specs.Intakes.{IsFresh, end_view, row_seen, with_more};
 ghost use Rattle.load_intake.specs.Keeping.{IsActive, entries};
 ghost use Rattle.load_intake.specs.Kept.{IsIntake, WaitsEmpty, intake_at};
 ghost use Rattle.load_intake.specs.Places.{arriving_at, open_load};
-ghost use Rattle.load_intake.specs.Stores.{EndsFile, IsInStep, StaysInStep, Writes};
+ghost use Rattle.load_intake.specs.Stores.{EndsFile, IsInStep, KeepsStore, StaysInStep};
 ghost use Rattle.bank_store.specs.Known.{KnowsActive};
 
 use crate::down::Down;
@@ -83,9 +83,8 @@ impl Intake {
             → BringsTo (K.state disk.old) store.new (K.state disk.new) s s
             (Reads_file (new_upload request.items)) [] result }
         // Whatever it answers.
-        ensures size { bank_size_of store.new ≡ bank_size_of store.old }
-        ensures known { OnErr result (known_of store.new ≡ known_of store.old) }
-        ensures writes { Writes (K.state disk.old) (K.state disk.new) result }
+        ensures keeps { KeepsStore store.old store.new (K.state disk.old) (K.state disk.new)
+            result }
     {
         storing::begin(store, disk)?;
         buffer.clear();
@@ -139,7 +138,7 @@ impl Intake {
 
     /// Takes the next bytes of the file: those of a data or support file are written at once, but
     /// none past the length that its header says.
-    pub fn take<K: Disk>(
+    pub fn take_bytes<K: Disk>(
         &mut self,
         store: &mut Store,
         disk: &mut K,
@@ -158,11 +157,10 @@ impl Intake {
             → BringsTo (K.state disk.old) store.new (K.state disk.new) s s (Reads_file u)
             (arrived ++ bytes.now) result }
         // Whatever it answers.
-        ensures size { bank_size_of store.new ≡ bank_size_of store.old }
-        ensures known { OnErr result (known_of store.new ≡ known_of store.old) }
-        ensures writes { Writes (K.state disk.old) (K.state disk.new) result }
+        ensures keeps { KeepsStore store.old store.new (K.state disk.old) (K.state disk.new)
+            result }
     {
-        self.place.take(store, disk, bytes)
+        self.place.add_bytes(store, disk, bytes)
     }
 
     /// The file is whole: it is tested, and kept if no test fails. Of a header A2, A3, A4, A5, of
@@ -187,10 +185,8 @@ impl Intake {
             → (o : Outline) → IsActive o identity.now (entries active.now)
             → IfOk result (λ finished. row_seen finished ≡ view_moved (Reads_file self.upload)
             self.arriving (done_move accepts o (Reads_file self.upload) self.arriving)) }
-        ensures ends { IfOk result (λ finished. EndsFile finished store.old store.new
-            (K.state disk.old) (K.state disk.new)) }
-        // The list of what is installed has room for the loads that are kept with it.
-        ensures spare { IfOk result (λ finished. HasSpareFor (length active.now) finished) }
+        ensures ends { IfOk result (λ finished. EndsFile (length active.now) finished store.old
+            store.new (K.state disk.old) (K.state disk.new)) }
         // Where the disk has what arrived, it has with Ok what comes of it: the files so far, or
         // the new configuration alone. Until then the old one is left, or in the last call either.
         ensures brings { (accepts : Accepts) → FollowsAccepts R.may_say interlock.now accepts
@@ -201,9 +197,8 @@ impl Intake {
             (row_moved (Reads_file u) arrived (done_move accepts o
             (Reads_file self.upload) self.arriving)) result }
         // Whatever it answers.
-        ensures size { bank_size_of store.new ≡ bank_size_of store.old }
-        ensures known { OnErr result (known_of store.new ≡ known_of store.old) }
-        ensures writes { Writes (K.state disk.old) (K.state disk.new) result }
+        ensures keeps { KeepsStore store.old store.new (K.state disk.old) (K.state disk.new)
+            result }
     {
         let Intake { whole, place } = self;
         match place {

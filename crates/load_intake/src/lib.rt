@@ -6,7 +6,7 @@
 //! ```text
 //! let mut intake = Intake::begin(alloc, request, buffer, &mut store, &mut disk)?;
 //! // until the upload ends: the file `intake.next_name()` is asked for, and as its bytes come
-//! intake.take(&mut store, &mut disk, bytes)?;
+//! intake.take_bytes(&mut store, &mut disk, bytes)?;
 //! // when it is whole: what it comes to
 //! match intake.finish(interlock, identity, active, &mut store, &mut disk)? { .. }
 //! ```

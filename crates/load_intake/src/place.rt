@@ -1,19 +1,17 @@
 //! The file of an upload that comes next.
 ghost use Rattle.std.specs.Prelude.{◌≡◌, ◌+◌, ◌-◌, ◌++◌, ℕ, List as Items, length, take};
-ghost use Rattle.std.specs.Prelude.{OnErr, OnOk};
+ghost use Rattle.std.specs.Prelude.{OnOk};
 ghost use Rattle.disk_layout.specs.Manifest.{LoadEntry};
-ghost use Rattle.bank_store.specs.Store.{bank_size_of, known_of};
 ghost use Rattle.bank_store.specs.DiskWrites.{IsRunning};
-ghost use Rattle.bank_store.specs.Store.{AwaitsFile};
 ghost use Rattle.bank_store.specs.Given.{Given, with_bytes as with_more};
 ghost use Rattle.disk_layout.specs.Holds.{StandingView};
 ghost use Rattle.session_rules.specs.Buffers.{summed_more};
-ghost use Rattle.session_rules.specs.TargetRows.{Reads_file, arriving_load, with_bytes};
+ghost use Rattle.session_rules.specs.TargetRows.{Kept_sums, Reads_file, arriving_load, with_bytes};
 ghost use Rattle.session_rules.specs.Uploads.{Upload, current_view};
 ghost use Rattle.load_intake.specs.Contents.{BringsTo, GivesContents, InstallsRow, IsGiven};
-ghost use Rattle.load_intake.specs.Kept.{IsOfNext, WaitsEmpty, bytes_taken};
+ghost use Rattle.load_intake.specs.Kept.{StaysAtFile, bytes_taken};
 ghost use Rattle.load_intake.specs.Places.{arriving_at, open_load};
-ghost use Rattle.load_intake.specs.Stores.{StoreGoesOn, StoreHas, HasRoomFor, MayTake, Writes};
+ghost use Rattle.load_intake.specs.Stores.{KeepsStore, MayTake, StoreGoesOn, StoreHas};
 
 use crate::down::Down;
 use crate::open_load::OpenLoad;
@@ -35,7 +33,7 @@ pub(crate) enum Place {
 
 impl Place {
     /// More of the file arrives.
-    pub(crate) fn take<K: Disk>(
+    pub(crate) fn add_bytes<K: Disk>(
         &mut self,
         store: &mut Store,
         disk: &mut K,
@@ -43,10 +41,7 @@ impl Place {
     ) -> Result<(), Down>
         requires may_take { MayTake (arriving_at self.old) store.old }
         requires running { IsRunning (K.state disk.old) }
-        ensures load { open_load self.new ≡ open_load self.old }
-        ensures waits { WaitsEmpty self.old → WaitsEmpty self.new }
-        ensures next { IsOfNext (open_load self.old) (arriving_at self.old)
-            → IsOfNext (open_load self.new) (arriving_at self.new) }
+        ensures place { StaysAtFile self.old self.new }
         ensures takes { OnOk result
             (arriving_at self.new ≡ with_bytes (arriving_at self.old) bytes.now) }
         ensures brings { (s : StandingView) (u : Upload) (arrived : Items ℕ)
@@ -60,9 +55,8 @@ impl Place {
             → OnOk result (StoreHas store.new loads missing (bytes_taken (arriving_at self.new))) }
         ensures goes_on { OnOk result (StoreGoesOn store.old store.new (K.state disk.old)
             (K.state disk.new)) }
-        ensures size { bank_size_of store.new ≡ bank_size_of store.old }
-        ensures known { OnErr result (known_of store.new ≡ known_of store.old) }
-        ensures writes { Writes (K.state disk.old) (K.state disk.new) result }
+        ensures keeps { KeepsStore store.old store.new (K.state disk.old) (K.state disk.new)
+            result }
     {
         match self {
             Place::Header(buffer) => {
@@ -81,8 +75,7 @@ fn write<K: Disk>(
     disk: &mut K,
     bytes: &[u8],
 ) -> Result<(), Down>
-    requires awaits { AwaitsFile store.old }
-    requires room { HasRoomFor (sums.old.said - sums.old.count) store.old }
+    requires may_take { MayTake (Kept_sums sums.old) store.old }
     requires running { IsRunning (K.state disk.old) }
     ensures sums { OnOk result (sums.new ≡ summed_more sums.old bytes.now) }
     ensures said { sums.new.said ≡ sums.old.said }
@@ -95,9 +88,8 @@ fn write<K: Disk>(
         (taken + length (take (sums.old.said - sums.old.count) bytes.now))) }
     ensures goes_on { OnOk result (StoreGoesOn store.old store.new (K.state disk.old)
         (K.state disk.new)) }
-    ensures size { bank_size_of store.new ≡ bank_size_of store.old }
-    ensures known { OnErr result (known_of store.new ≡ known_of store.old) }
-    ensures writes { Writes (K.state disk.old) (K.state disk.new) result }
+    ensures keeps { KeepsStore store.old store.new (K.state disk.old) (K.state disk.new)
+        result }
 {
     storing::append(store, disk, sums.kept(bytes))?;
     sums.take(bytes)?;

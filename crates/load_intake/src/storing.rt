@@ -1,13 +1,12 @@
 //! What an intake has its store do.
-ghost use Rattle.std.specs.Prelude.{◌≡◌, ℕ, ◌+◌, ◌<◌, ◌≤◌, [], ◌∷◌, ◌++◌, length, List, Some, true};
-ghost use Rattle.std.specs.Prelude.{false, OnErr, OnOk};
+ghost use Rattle.std.specs.Prelude.{◌≡◌, ℕ, ◌+◌, ◌≤◌, [], ◌∷◌, ◌++◌, length, List, Some, true};
+ghost use Rattle.std.specs.Prelude.{false, OnOk};
 ghost use Rattle.bank_store.specs.DiskWrites.{IsFailure, IsRunning};
 ghost use Rattle.bank_store.specs.Keeps.{Continues};
 ghost use Rattle.bank_store.specs.Known.{KnowsActive};
 ghost use Rattle.bank_store.specs.Store.{AwaitsEnd, AwaitsFile, AwaitsLoad, IsBetweenLoads};
-ghost use Rattle.bank_store.specs.Store.{IsPrepared, IsSealed, IsSpent, bank_size_of, body_of};
-ghost use Rattle.bank_store.specs.Store.{known_of, manifest_length};
-ghost use Rattle.disk_layout.specs.Manifest.{LoadEntry, entry_view, total_length};
+ghost use Rattle.bank_store.specs.Store.{IsPrepared, IsSealed, IsSpent, body_of, manifest_length};
+ghost use Rattle.disk_layout.specs.Manifest.{LoadEntry, entry_view};
 ghost use Rattle.load_base.specs.Config.{LoadView};
 ghost use Rattle.load_header.specs.Header.{header_view};
 ghost use Rattle.session_rules.specs.Uploads.{files_of};
@@ -23,9 +22,9 @@ ghost use Rattle.session_rules.specs.TargetRows.{Over};
 ghost use Rattle.load_intake.specs.Contents.{BringsTo, GivesContents, IsGiven, LeavesSealed};
 ghost use Rattle.load_intake.specs.Contents.{with_whole_loads};
 ghost use Rattle.load_intake.specs.Keeping.{entries, kept_beside};
-ghost use Rattle.load_intake.specs.Stores.{CanKeepLoad, StoreHas, HasRoomFor, HasRoomToKeep};
-ghost use Rattle.load_intake.specs.Stores.{InstallsLoads, StoreGoesOn, Writes, down_of};
-ghost use Rattle.load_intake.specs.Stores.{header_alone, with_entry};
+ghost use Rattle.load_intake.specs.Stores.{CanKeepLoad, CanWriteHeader, HasRoomFor};
+ghost use Rattle.load_intake.specs.Stores.{HasRoomToKeep, InstallsLoads, KeepsStore, StoreGoesOn};
+ghost use Rattle.load_intake.specs.Stores.{StoreHas, down_of, header_alone, with_entry};
 
 use crate::down::Down;
 use crate::keeping::is_kept_beside;
@@ -59,9 +58,8 @@ pub(crate) fn begin<K: Disk>(store: &mut Store, disk: &mut K) -> Result<(), Down
         → GivesContents (K.state disk.old) store.new (K.state disk.new) s nothing_given result }
     ensures goes_on { OnOk result (StoreGoesOn store.old store.new (K.state disk.old)
         (K.state disk.new)) }
-    ensures size { bank_size_of store.new ≡ bank_size_of store.old }
-    ensures known { OnErr result (known_of store.new ≡ known_of store.old) }
-    ensures writes { Writes (K.state disk.old) (K.state disk.new) result }
+    ensures keeps { KeepsStore store.old store.new (K.state disk.old) (K.state disk.new)
+        result }
 {
     match store.begin(disk) {
         Ok(()) => Ok(()),
@@ -82,9 +80,8 @@ pub(crate) fn append<K: Disk>(store: &mut Store, disk: &mut K, bytes: &[u8]) -> 
         result }
     ensures goes_on { OnOk result (StoreGoesOn store.old store.new (K.state disk.old)
         (K.state disk.new)) }
-    ensures size { bank_size_of store.new ≡ bank_size_of store.old }
-    ensures known { OnErr result (known_of store.new ≡ known_of store.old) }
-    ensures writes { Writes (K.state disk.old) (K.state disk.new) result }
+    ensures keeps { KeepsStore store.old store.new (K.state disk.old) (K.state disk.new)
+        result }
 {
     match store.append(disk, bytes) {
         Ok(()) => Ok(()),
@@ -137,12 +134,8 @@ pub(crate) fn write_header<K: Disk>(
     store: &mut Store,
     disk: &mut K,
 ) -> Result<(), Down>
-    requires has { StoreHas store.old whole.now.loads 0 0 }
-    requires few { (length whole.now.loads < 32)
-        × (length (files_of (header_view header.now)) ≤ 255) }
-    requires room { total_length whole.now.loads + length bytes.now ≤ bank_size_of store.old }
-    requires short { length bytes.now ≤ 65536 }
-    requires part { length wanted.now.part ≡ 15 }
+    requires can { CanWriteHeader store.old whole.now.loads wanted.now (header_view header.now)
+        (length bytes.now) }
     requires running { IsRunning (K.state disk.old) }
     ensures has { OnOk result (StoreHas store.new
         (whole.now.loads ++ header_alone wanted.now header.now.type_id (length bytes.now) ∷ [])
@@ -154,9 +147,8 @@ pub(crate) fn write_header<K: Disk>(
         (length (files_of (header_view header.now)) + 1) g))) result }
     ensures goes_on { OnOk result (StoreGoesOn store.old store.new (K.state disk.old)
         (K.state disk.new)) }
-    ensures size { bank_size_of store.new ≡ bank_size_of store.old }
-    ensures known { OnErr result (known_of store.new ≡ known_of store.old) }
-    ensures writes { Writes (K.state disk.old) (K.state disk.new) result }
+    ensures keeps { KeepsStore store.old store.new (K.state disk.old) (K.state disk.new)
+        result }
 {
     let files = header.data_files.len() + header.support_files.len();
     start_load(store, wanted.part.text(), header.type_id, files as u16 + 1);
@@ -184,9 +176,8 @@ pub(crate) fn install<K: Disk>(
         → types_in (loads_of g) ≡ types_of (entries new.now)
         → BringsTo (K.state disk.old) store.new (K.state disk.new) s
         (standing_after s (loads_of g)) Over [] result }
-    ensures size { bank_size_of store.new ≡ bank_size_of store.old }
-    ensures known { OnErr result (known_of store.new ≡ known_of store.old) }
-    ensures writes { Writes (K.state disk.old) (K.state disk.new) result }
+    ensures keeps { KeepsStore store.old store.new (K.state disk.old) (K.state disk.new)
+        result }
 {
     keep_loads(store, disk, active, new)?;
     seal(store, disk)?;
@@ -215,9 +206,8 @@ fn keep_loads<K: Disk>(
         (with_whole_loads (kept_loads (types_of (entries new.now)) s.loads) g) result }
     ensures goes_on { OnOk result (StoreGoesOn store.old store.new (K.state disk.old)
         (K.state disk.new)) }
-    ensures size { bank_size_of store.new ≡ bank_size_of store.old }
-    ensures known { OnErr result (known_of store.new ≡ known_of store.old) }
-    ensures writes { Writes (K.state disk.old) (K.state disk.new) result }
+    ensures keeps { KeepsStore store.old store.new (K.state disk.old) (K.state disk.new)
+        result }
 {
     let mut number = 0;
     for load in active {
@@ -252,9 +242,8 @@ fn keep_load<K: Disk>(
         → GivesContents (K.state disk.old) store.new (K.state disk.new) s g result }
     ensures goes_on { OnOk result (StoreGoesOn store.old store.new (K.state disk.old)
         (K.state disk.new)) }
-    ensures size { bank_size_of store.new ≡ bank_size_of store.old }
-    ensures known { OnErr result (known_of store.new ≡ known_of store.old) }
-    ensures writes { Writes (K.state disk.old) (K.state disk.new) result }
+    ensures keeps { KeepsStore store.old store.new (K.state disk.old) (K.state disk.new)
+        result }
 {
     if !is_kept_beside(load, new) {
         return Ok(());
@@ -276,9 +265,8 @@ fn seal<K: Disk>(store: &mut Store, disk: &mut K) -> Result<(), Down>
         → LeavesSealed (K.state disk.old) store.new (K.state disk.new) s (loads_of g) result }
     ensures goes_on { OnOk result (StoreGoesOn store.old store.new (K.state disk.old)
         (K.state disk.new)) }
-    ensures size { bank_size_of store.new ≡ bank_size_of store.old }
-    ensures known { OnErr result (known_of store.new ≡ known_of store.old) }
-    ensures writes { Writes (K.state disk.old) (K.state disk.new) result }
+    ensures keeps { KeepsStore store.old store.new (K.state disk.old) (K.state disk.new)
+        result }
 {
     match store.seal(disk) {
         Ok(()) => Ok(()),

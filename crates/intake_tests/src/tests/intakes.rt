@@ -180,7 +180,7 @@ fn header_told(
     requires running { IsRunning (state_of disk.old) }
     ensures { OnOk result (IsRunning (state_of disk.new)) }
 {
-    if let Err(down) = intake.take(store, disk, header) {
+    if let Err(down) = intake.take_bytes(store, disk, header) {
         drop(intake);
         return Err(Fail::from(down));
     }
@@ -207,7 +207,7 @@ fn file_told(
     requires running { IsRunning (state_of disk.old) }
     ensures { OnOk result (IsRunning (state_of disk.new)) }
 {
-    if let Err(down) = intake.take(store, disk, file) {
+    if let Err(down) = intake.take_bytes(store, disk, file) {
         drop(intake);
         return Err(Fail::from(down));
     }

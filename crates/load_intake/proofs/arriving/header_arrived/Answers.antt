@@ -24,18 +24,17 @@ returns-then-count-bytes-clause-row g c accepts follows active same =
 
 pub returns-then-count-bytes-clause-ends : goal.returns-then-count-bytes-clause-ends
 returns-then-count-bytes-clause-ends g c =
-    stops_there c.refuse_header-end.result c.args.store.now c.refuse_header-end.new.store _ c.refuse_header-end.ensures.continues c.refuse_header-end.ensures.prepared c.requires.arrived.running
+    stops_there _ c.refuse_header-end.result c.args.store.now c.refuse_header-end.new.store _ c.refuse_header-end.ensures.continues c.refuse_header-end.ensures.prepared c.requires.arrived.running
 
-pub header_read-requires-clause-short : goal.header_read-requires-clause-short
+pub header_read-requires-clause-header : goal.header_read-requires-clause-header
 unfolding header_size
-header_read-requires-clause-short g c =
-    let b = c.args.buffer in (
-      omega (arith, c.header_laws.ensures.length (header_view c.in-Ok.header) c.prefix-bytes.result.now c.in-Ok.ensures.found, ap length c.prefix-bytes.ensures),
-      omega (arith, c.count.ensures.filled.filled, ap length c.prefix-bytes.ensures),
-    )
-
-pub header_read-requires-clause-spelled : goal.header_read-requires-clause-spelled
-header_read-requires-clause-spelled g c = subst (λ (bytes : List ℕ). HeaderSpells (header_view c.in-Ok.header) bytes) c.prefix-bytes.ensures c.in-Ok.ensures.found
+header_read-requires-clause-header g c =
+    let b = c.args.buffer in
+    record {
+      spelled = subst (λ (bytes : List ℕ). HeaderSpells (header_view c.in-Ok.header) bytes) c.prefix-bytes.ensures c.in-Ok.ensures.found;
+      least = omega (arith, c.header_laws.ensures.length (header_view c.in-Ok.header) c.prefix-bytes.result.now c.in-Ok.ensures.found, ap length c.prefix-bytes.ensures);
+      most = omega (arith, c.count.ensures.filled.filled, ap length c.prefix-bytes.ensures);
+    }
 
 pub returns-in-Ok-clause-row : goal.returns-in-Ok-clause-row
 returns-in-Ok-clause-row g c accepts follows active same =
@@ -59,8 +58,7 @@ returns-in-Err g c = record {
       let is = rw c.prefix-bytes.ensures at (header_is_refused c.prefix-bytes.result.now Memory c.in-Err.fault (search rules) c.in-Err.ensures.refused) in
       ap (λ (e : UploadEnd). Writes_stop e) c.refuse_header.ensures.end
       ∙ refused_row accepts active c.args.whole b c.in-Err.fault c.requires.arrived.keeps (within_buffer b filled all) is;
-  ends = stops_there c.refuse_header.result c.args.store.now c.refuse_header.new.store _ c.refuse_header.ensures.continues c.refuse_header.ensures.prepared c.requires.arrived.running;
-  spare = tt;
+  ends = stops_there _ c.refuse_header.result c.args.store.now c.refuse_header.new.store _ c.refuse_header.ensures.continues c.refuse_header.ensures.prepared c.requires.arrived.running;
   brings = λ accepts follows active same s u arrived is installs.
       let b = c.args.buffer in
       let filled = c.count.ensures.filled.filled in
@@ -71,9 +69,7 @@ returns-in-Err g c = record {
       (stops u v arrived (Kept_bytes b) (done_move accepts active (Reads_file v) (Kept_bytes b)) _
       (ap (λ (e : UploadEnd). Writes_stop e) c.refuse_header.ensures.end ∙ refused_row accepts active c.args.whole b c.in-Err.fault c.requires.arrived.keeps (within_buffer b filled all) found))
       c.refuse_header.ensures.continues installs;
-  size = c.refuse_header.ensures.continues.active.size;
-  known = tt;
-  writes = search rules;
+  keeps = record { size = c.refuse_header.ensures.continues.active.size; known = tt; writes = search rules };
 }
 
 pub returns-then-count-bytes-clause-brings : goal.returns-then-count-bytes-clause-brings

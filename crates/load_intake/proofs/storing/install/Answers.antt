@@ -19,7 +19,7 @@ seal-requires g c =
     let has = c.in_ok-keep_loads.ensures.has in
     record {
       between = between c.keep_loads.new.store _ has;
-      room = may_seal_all c.args.store.now c.keep_loads.new.store _ c.keep_loads.ensures.size c.requires.room.fits has;
+      room = may_seal_all c.args.store.now c.keep_loads.new.store _ c.keep_loads.ensures.keeps.size c.requires.room.fits has;
       running = search rules;
     }
 

@@ -1,7 +1,7 @@
 use Rattle.std.proofs.Common.{ap, ◌∙◌}
 use Rattle.load_intake.specs.Places.{arriving_at, open_load}
 use Rattle.load_intake.proofs.Filling.{file_brings_more, header_brings_more}
-use Rattle.load_intake.proofs.place.Place.take.Goals as goal
+use Rattle.load_intake.proofs.place.Place.add_bytes.Goals as goal
 
 pub returns-in_ok-take-in-Header-clause-brings : goal.returns-in_ok-take-in-Header-clause-brings
 returns-in_ok-take-in-Header-clause-brings g c = λ s u arrived current kept installs.
