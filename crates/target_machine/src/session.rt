@@ -17,9 +17,8 @@ pub(crate) struct LiveSession {
 }
 
 impl LiveSession {
-    ghost use Rattle.std.specs.Prelude.{◌≡◌, ◌≤◌, ◌++◌, List, OnErr, OnOk};
+    ghost use Rattle.std.specs.Prelude.{◌≡◌, ◌≤◌, ◌++◌, List, OnOk};
     ghost use Rattle.bank_store.specs.DiskWrites.{IsRunning};
-    ghost use Rattle.bank_store.specs.Store.{bank_size_of, known_of};
     ghost use Rattle.bank_store.specs.declared.store.Store.{Store as StoreState};
     ghost use Rattle.disk_layout.specs.Holds.{StandingView};
     ghost use Rattle.disk_layout.specs.Manifest.{LoadEntry};
@@ -27,7 +26,7 @@ impl LiveSession {
     ghost use Rattle.session_rules.specs.Contents.{SessionContents, session_kept};
     ghost use Rattle.load_intake.specs.Contents.{BringsTo, InstallsRow};
     ghost use Rattle.load_intake.specs.Held.{contents_kept};
-    ghost use Rattle.load_intake.specs.Stores.{StoreGoesOn, Writes};
+    ghost use Rattle.load_intake.specs.Stores.{KeepsStore, StoreGoesOn};
     ghost use Rattle.target_machine.specs.Machine.{session_held, session_seen, session_with};
     ghost use Rattle.target_machine.specs.Stages.{IsRowStage};
 
@@ -57,7 +56,7 @@ impl LiveSession {
 
     /// More of a file arrives. Of a data or support file of a load it goes straight to the other
     /// bank.
-    pub(crate) fn take<K: Disk>(
+    pub(crate) fn add_payload<K: Disk>(
         &mut self,
         store: &mut Store,
         disk: &mut K,
@@ -75,13 +74,12 @@ impl LiveSession {
             (x.arrived ++ payload.now) result }
         ensures goes_on { OnOk result (StoreGoesOn store.old store.new (K.state disk.old)
             (K.state disk.new)) }
-        ensures size { bank_size_of store.new ≡ bank_size_of store.old }
-        ensures known { OnErr result (known_of store.new ≡ known_of store.old) }
-        ensures writes { Writes (K.state disk.old) (K.state disk.new) result }
+        ensures keeps { KeepsStore store.old store.new (K.state disk.old) (K.state disk.new)
+            result }
     {
         match &mut self.row {
             Row::ReadsFile(intake) => {
-                intake.take(store, disk, payload)?;
+                intake.take_bytes(store, disk, payload)?;
                 // For the proof: does nothing.
                 intake.no_more();
                 Ok(())

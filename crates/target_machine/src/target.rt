@@ -311,15 +311,15 @@ impl<'i, R: Rule> Target<'i, R> {
         ensures work { OnOk result (KeepsWork self.old self.new) }
     {
         match packet {
-            Packet::Rrq { name, options } => self.give(from, name, *options),
-            Packet::Wrq { name, options } => self.accept(from, name, *options),
+            Packet::Rrq { name, options } => self.serve_file(from, name, *options),
+            Packet::Wrq { name, options } => self.receive_file(from, name, *options),
             _ => Ok(self.pass_over()),
         }
     }
 
     /// A request to read a file. One of the target's own begins a session, also where one is live;
     /// any other is refused, unless the target is busy.
-    fn give(&mut self, from: u16, name: &Name, options: Options) -> Result<Posts, NoMemory>
+    fn serve_file(&mut self, from: u16, name: &Name, options: Options) -> Result<Posts, NoMemory>
         requires { AreInRange options }
         ensures does { IfOk result (λ posts. TargetDoes (read_decision self.old.view from name.now
             options) self.old self.new (posts_view posts)) }
@@ -416,7 +416,7 @@ impl<'i, R: Rule> Target<'i, R> {
     }
 
     /// A request to write a file: an LUR, where the row awaits it.
-    fn accept(&mut self, from: u16, name: &Name, options: Options) -> Result<Posts, NoMemory>
+    fn receive_file(&mut self, from: u16, name: &Name, options: Options) -> Result<Posts, NoMemory>
         requires { AreInRange options }
         ensures does { IfOk result (λ posts. TargetDoes (writing_decision self.old.view from
             name.now
@@ -501,7 +501,7 @@ impl<'i, R: Rule> Target<'i, R> {
     {
         contents_follow_their_log();
         match news {
-            News::Nothing => Ok(self.go_on()),
+            News::Nothing => Ok(self.nothing_follows()),
             News::Block(payload) => {
                 self.take(disk, payload)?;
                 Ok(None)
@@ -516,7 +516,7 @@ impl<'i, R: Rule> Target<'i, R> {
     }
 
     /// Nothing follows.
-    fn go_on(&self) -> Option<Datagram>
+    fn nothing_follows(&self) -> Option<Datagram>
         ensures does { TargetDoes nothing self.now self.now (posted result) }
         ensures none { posted result ≡ [] }
     {
@@ -543,7 +543,7 @@ impl<'i, R: Rule> Target<'i, R> {
         let Some(mut session) = self.live.take() else {
             return Ok(());
         };
-        match session.take(&mut self.installed.store, disk, payload) {
+        match session.add_payload(&mut self.installed.store, disk, payload) {
             Ok(()) => {
                 drop(self.live.replace(session));
                 Ok(())

@@ -30,7 +30,7 @@ returns-in-PeerError-clause-session g c = λ accepts follows x live.
 
 pub returns-in-Nothing-clause-brings : goal.returns-in-Nothing-clause-brings
 returns-in-Nothing-clause-brings g c = λ accepts follows x kept holds.
-    subst (λ news. BringsContents {E = Down} (g.K.Disk.state c.args.disk.now) c.args.self.now.store (g.K.Disk.state c.args.disk.now) x (contents_changed x (change_heard accepts c.args.self.now.view c.args.self.now.view.live (news_view news))) (Ok c.go_on.result)) (sym c.in-Nothing.is)
+    subst (λ news. BringsContents {E = Down} (g.K.Disk.state c.args.disk.now) c.args.self.now.store (g.K.Disk.state c.args.disk.now) x (contents_changed x (change_heard accepts c.args.self.now.view c.args.self.now.view.live (news_view news))) (Ok c.nothing_follows.result)) (sym c.in-Nothing.is)
     (hears_nothing accepts c.args.self.now.store (g.K.Disk.state c.args.disk.now) x c.args.self.now.view _ holds)
 
 pub returns-in_ok-take-in-Block-clause-brings : goal.returns-in_ok-take-in-Block-clause-brings

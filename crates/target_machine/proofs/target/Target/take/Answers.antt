@@ -9,14 +9,14 @@ use Rattle.target_machine.proofs.target.Target.take.Goals as goal
 
 pub invariant_of-self-inside-in-Err : goal.invariant_of-self-inside-in-Err
 invariant_of-self-inside-in-Err g c =
-    still_installed _ _ _ c.take-2.new.store c.take-2.ensures.size (rw c.in-Err.is at c.take-2.ensures.known) c.self-inside.invariant
+    still_installed _ _ _ c.add_payload.new.store c.add_payload.ensures.keeps.size (rw c.in-Err.is at c.add_payload.ensures.keeps.known) c.self-inside.invariant
 
 pub returns-in-Ok-clause-brings : goal.returns-in-Ok-clause-brings
 returns-in-Ok-clause-brings g c = λ x kept holds.
     let loads = c.self.inside.installed.active.loads in
     let there : c.self.inside.live ≡ Some c.in-Some.session = search rules in
     let live = sym (ap (λ (y : TargetState g.row.R.Denot). y.view.live) c.self.view_is) ∙ ap (option_map (session_seen loads)) there in
-    take_live c.args.self.now.store (g.K.Disk.state c.args.disk.now) c.take-2.new.store (g.K.Disk.state c.take-2.new.disk) x c.args.self.now.view (session_seen loads c.in-Some.session) c.args.payload.now (Ok tt) kept live holds
+    take_live c.args.self.now.store (g.K.Disk.state c.args.disk.now) c.add_payload.new.store (g.K.Disk.state c.add_payload.new.disk) x c.args.self.now.view (session_seen loads c.in-Some.session) c.args.payload.now (Ok tt) kept live holds
     (λ y seen installs. c.in-Ok.ensures.brings loads x.active y seen
     (subst (λ i. InstallsRow i.installed.store (g.K.Disk.state c.args.disk.now) x.active y.row y.arrived) (sym c.self-inside.view_is)
     (subst (λ (t : TargetState g.row.R.Denot). InstallsRow t.store (g.K.Disk.state c.args.disk.now) x.active y.row y.arrived) (sym c.self.view_is) installs)))
@@ -26,8 +26,8 @@ returns-in-Err-clause-brings g c = λ x kept holds.
     let loads = c.self.inside.installed.active.loads in
     let there : c.self.inside.live ≡ Some c.in-Some.session = search rules in
     let live = sym (ap (λ (y : TargetState g.row.R.Denot). y.view.live) c.self.view_is) ∙ ap (option_map (session_seen loads)) there in
-    fails_so (g.K.Disk.state c.args.disk.now) c.take-2.new.store c.abandon.new.self.store (g.K.Disk.state c.take-2.new.disk) x.active _ _ _ c.take-2.result (Err c.in-Err.down) refl
-    (take_live c.args.self.now.store (g.K.Disk.state c.args.disk.now) c.take-2.new.store (g.K.Disk.state c.take-2.new.disk) x c.args.self.now.view (session_seen loads c.in-Some.session) c.args.payload.now c.take-2.result kept live holds
-    (λ y seen installs. c.take-2.ensures.brings loads x.active y seen
+    fails_so (g.K.Disk.state c.args.disk.now) c.add_payload.new.store c.abandon.new.self.store (g.K.Disk.state c.add_payload.new.disk) x.active _ _ _ c.add_payload.result (Err c.in-Err.down) refl
+    (take_live c.args.self.now.store (g.K.Disk.state c.args.disk.now) c.add_payload.new.store (g.K.Disk.state c.add_payload.new.disk) x c.args.self.now.view (session_seen loads c.in-Some.session) c.args.payload.now c.add_payload.result kept live holds
+    (λ y seen installs. c.add_payload.ensures.brings loads x.active y seen
     (subst (λ i. InstallsRow i.installed.store (g.K.Disk.state c.args.disk.now) x.active y.row y.arrived) (sym c.self-inside.view_is)
     (subst (λ (t : TargetState g.row.R.Denot). InstallsRow t.store (g.K.Disk.state c.args.disk.now) x.active y.row y.arrived) (sym c.self.view_is) installs))))

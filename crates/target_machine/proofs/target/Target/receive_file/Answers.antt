@@ -8,7 +8,7 @@ use Rattle.target_machine.specs.Decisions.{TargetState}
 use Rattle.target_machine.proofs.Calm.{calm}
 use Rattle.target_machine.proofs.Following.{does_so}
 use Rattle.target_machine.proofs.Serving.{makes_so, not_taken, serves, writes}
-use Rattle.target_machine.proofs.target.Target.accept.Goals as goal
+use Rattle.target_machine.proofs.target.Target.receive_file.Goals as goal
 
 pub returns-then-not-may_serve-clause-does : goal.returns-then-not-may_serve-clause-does
 returns-then-not-may_serve-clause-does g c =

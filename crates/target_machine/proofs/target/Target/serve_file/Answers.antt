@@ -1,6 +1,6 @@
 use Rattle.std.proofs.Common.{sym, ◌∙◌}
 use Rattle.target_machine.proofs.Serving.{gives_so}
-use Rattle.target_machine.proofs.target.Target.give.Goals as goal
+use Rattle.target_machine.proofs.target.Target.serve_file.Goals as goal
 
 pub returns-in-Some-clause-does : goal.returns-in-Some-clause-does
 returns-in-Some-clause-does g c =
