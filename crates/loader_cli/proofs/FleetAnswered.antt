@@ -4,14 +4,16 @@ use Rattle.std.specs.Prelude.{OnErr, codes, option_map}
 use Rattle.std.specs.Fmt.{decimal}
 use Rattle.std.proofs.lemmas.Fmt.{decimal_injective}
 use Rattle.disk_model.specs.State.{DiskState}
+use Rattle.load_base.specs.Host.{Files}
 use Rattle.load_base.specs.declared.list.NoMemory.{NoMemory}
 use Rattle.loader_cli.specs.Answers.{HidesNoFault, answered_status, status_of, text_of}
 use Rattle.loader_cli.specs.Commands.{IsCommand, IsNo, IsOfFleet, IsPlain, UsesScript, command_view}
 use Rattle.loader_cli.specs.Commands.CommandView.{build, check, fleet, format, list, make, replay, rollback, show, trial, wire}
 use Rattle.loader_cli.specs.Commands.IsCommand.{on, plain}
 use Rattle.loader_cli.specs.FleetReplays.{FleetSeen, fleet_seen}
-use Rattle.loader_cli.specs.FleetRuns.{AllLeaveFirstOrGood, FleetRunsOut, FleetSays, FleetTellsAll, FleetWork, WritesWhereAllHold, fleet_handing}
-use Rattle.loader_cli.specs.Told.{AnswersFleet, HandsOutByCommand}
+use Rattle.loader_cli.specs.FleetRuns.{FleetRunsOut, FleetSays, FleetTellsAll, FleetWork, LeavesFleet, fleet_handing}
+use Rattle.loader_cli.specs.Told.{AnswersAsAsked, AnswersFleet}
+use Rattle.loader_cli.specs.Touches.{HandsOutByCommand, TouchesOnly}
 use Rattle.loader_cli.specs.declared.answer.Answered.{Answered}
 use Rattle.loader_cli.specs.declared.command.Command.{Command}
 use Rattle.loader_cli.proofs.Named.{fleet_alone, fleet_no_on, never_fleet}
@@ -68,9 +70,9 @@ as_asked words count folder script asked Holds holds count_2 folder_2 script_2 i
 
 pub fleet_answered : {K : Type 0} (state : K → DiskState) (work : FleetWork K) (result : Result Answered NoMemory)
     → IfOk result (λ said. FleetSays state work (option_map fleet_seen said.fleet) (status_of said.answer) (text_of said.answer)) → HidesNoFault answered_status work.host_faults work.host_faults_after result
-    → OnErr result (FleetRunsOut state work.disks work.disks_after) → WritesWhereAllHold state work.disks work.disks_after → AllLeaveFirstOrGood state work.disks work.disks_after → AnswersFleet state work result
-fleet_answered state work (Ok said) says hides memory held leaves = record { tells = record { says = says; host = hides.answered }; no_memory = tt; held = held; leaves = leaves }
-fleet_answered state work (Err fault) says hides memory held leaves = record { tells = tt; no_memory = (hides.no_memory, memory); held = held; leaves = leaves }
+    → OnErr result (FleetRunsOut state work.disks work.disks_after) → LeavesFleet state work.disks work.disks_after → AnswersFleet state work result
+fleet_answered state work (Ok said) says hides memory left = record { tells = record { says = says; host = hides.answered }; no_memory = tt; left = left }
+fleet_answered state work (Err fault) says hides memory left = record { tells = tt; no_memory = (hides.no_memory, memory); left = left }
 
 pub hands_of_fleet : (words : List (List ℕ)) (count : ℕ) (folder script : List ℕ) → IsCommand words (fleet count folder script) → (result : Result Answered NoMemory) → IfOk result (λ said. said.drive ≡ None)
     → IfOk result (λ said. HandsOutByCommand words said.drive said.fleet)
@@ -95,3 +97,16 @@ same_taken (suc n) (x ∷ xs) (y ∷ ys) same = ap suc (same_taken n xs ys (omeg
 
 pub nothing_handed : {D F : Type 0} (words : List (List ℕ)) → HandsOutByCommand {D = D} {F = F} words None None
 nothing_handed words = record { no_run = λ no. refl; no_fleet = λ no. refl; none_beside = λ count folder script is. refl }
+
+-- ---- either
+
+-- what was answered touched what the arguments use, whatever becomes of its run
+pub touched_only : {H K D F : Type 0} {files : H → Option Files} {faults : H → ℕ} {state : K → DiskState} {words : List (List ℕ)} {host host_after : H} {disks disks_after : List K} {result : Result Answered NoMemory}
+    (drive : Option D) (of_fleet : Option F) → AnswersAsAsked files faults state words host host_after disks disks_after result → HandsOutByCommand words drive of_fleet
+    → TouchesOnly files state words host host_after disks disks_after drive of_fleet
+touched_only drive of_fleet answers hands = record {
+  disk = λ alone before after there still. (answers.unit alone before after there still).disk;
+  others = answers.others;
+  host = answers.host;
+  hands_out = hands;
+}

@@ -27,12 +27,13 @@ use Rattle.loader_cli.specs.Runs.ShowsBytes.{faulty, shown}
 use Rattle.loader_cli.specs.Texts.{formatted_line, no_configuration, refused_input}
 use Rattle.loader_cli.specs.declared.replay.Telling.TheVariants.{Report, Trace}
 use Rattle.loader_cli.specs.declared.top_call.Ended.{Ended}
+use Rattle.loader_cli.specs.CommandLaws.{FormerLaws, ImageLaws, ShownLaws}
 use Rattle.loader_cli.proofs.Asked.{one_target, says_of_build, says_of_check, says_of_format, says_of_list, says_of_make, says_of_rollback, says_of_show}
 use Rattle.loader_cli.proofs.BuiltOnce.{one_build, one_make, some_none, some_same}
-use Rattle.loader_cli.proofs.OneOutput.{ImageLaws, one_output_given, one_trial, said_of_replay, said_of_trial}
+use Rattle.loader_cli.proofs.OneOutput.{one_output_given, one_trial, said_of_replay, said_of_trial}
 use Rattle.loader_cli.proofs.Refusals.{rest_is_large, rest_is_long, rest_passes, rest_refusal}
-use Rattle.loader_cli.proofs.RolledBack.{FormerLaws, one_rollback}
-use Rattle.loader_cli.proofs.ShownOnce.{ShownLaws, shown_once}
+use Rattle.loader_cli.proofs.RolledBack.{one_rollback}
+use Rattle.loader_cli.proofs.ShownOnce.{shown_once}
 use Rattle.loader_cli.proofs.SteadyRuns.{DiskLaws}
 
 -- ---- `list`, `format`

@@ -9,7 +9,7 @@ use Rattle.load_base.specs.Host.{Files}
 use Rattle.load_base.specs.Listed.{Listed}
 use Rattle.load_base.specs.Sink.{IsExtended}
 use Rattle.disk_model.specs.Image.{Image}
-use Rattle.disk_layout.specs.Holds.{HasDiskFault, HoldsConfig, StandingView}
+use Rattle.disk_layout.specs.Holds.{HasDiskFault, StandingView}
 use Rattle.disk_layout.specs.Identity.{identity}
 use Rattle.disk_layout.specs.Offsets.{longest_identity}
 use Rattle.disk_layout.specs.declared.fault.RecoverFault.{RecoverFault}
@@ -44,16 +44,11 @@ use Rattle.loader_cli.specs.Trials.Trials.{no_target, target_unread, tried}
 use Rattle.loader_cli.specs.declared.replay.Telling.{Telling}
 use Rattle.loader_cli.specs.declared.replay.Telling.TheVariants.{Report}
 use Rattle.loader_cli.specs.declared.top_call.Ended.{Ended}
+use Rattle.loader_cli.specs.CommandLaws.{ImageLaws}
 use Rattle.loader_cli.proofs.Asked.{formats_none, says_of_run, says_of_trial, trial_formats_none}
 use Rattle.loader_cli.proofs.Refusals.{inputs_pass, inputs_refused}
 use Rattle.loader_cli.proofs.ReplayRuns.{same_script, same_set}
 use Rattle.loader_cli.proofs.SteadyRuns.{DiskLaws, outcome_gives}
-
--- an image holds one configuration or has one fault
-pub record ImageLaws : Type 0 where
-  pub not_both : (image : Image) (s : StandingView) (f : RecoverFault) → HoldsConfig image s → HasDiskFault image f → ⊥
-  pub one_standing : (image : Image) (s t : StandingView) → HoldsConfig image s → HoldsConfig image t → s ≡ t
-  pub one_fault : (image : Image) (f g : RecoverFault) → HasDiskFault image f → HasDiskFault image g → f ≡ g
 
 -- ---- one output
 

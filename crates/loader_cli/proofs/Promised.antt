@@ -23,15 +23,14 @@ use Rattle.loader_cli.specs.Runs.ShowsBytes.{shown}
 use Rattle.loader_cli.specs.Texts.{formatted_line}
 use Rattle.loader_cli.specs.declared.top_call.Ended.{Ended}
 use Rattle.loader_cli.specs.declared.replay.Telling.{Telling}
+use Rattle.loader_cli.specs.CommandLaws.{BuildingLaws, FormerLaws, ImageLaws, ShownLaws, UploadLaws}
 use Rattle.loader_cli.proofs.Asked.{formats_none, one_target, says_of_format, says_of_list, says_of_rollback, says_of_show, trial_formats_none}
 use Rattle.loader_cli.proofs.Clean.{clean_said}
 use Rattle.loader_cli.proofs.OneAnswer.{one_show}
-use Rattle.loader_cli.proofs.OneOutput.{ImageLaws}
 use Rattle.loader_cli.proofs.ReplayRuns.{EndLaws, was_told}
-use Rattle.loader_cli.proofs.RolledBack.{FormerLaws, brought_is, none_refused}
-use Rattle.loader_cli.proofs.SetRuns.{BuildingLaws, apart, build_said, make_said, run_leaves}
-use Rattle.loader_cli.proofs.ShownOnce.{ShownLaws}
-use Rattle.loader_cli.proofs.Uploaded.{UploadLaws, was_uploaded}
+use Rattle.loader_cli.proofs.RolledBack.{brought_is, none_refused}
+use Rattle.loader_cli.proofs.SetRuns.{apart, build_said, make_said, run_leaves}
+use Rattle.loader_cli.proofs.Uploaded.{was_uploaded}
 
 -- a run succeeds, in which nothing fails, if this is all that it can say
 succeeds : (run : Run) (ended : Ended) (line : List ℕ) → ¬ Rose run.sink_faults run.sink_faults_after → ((status : ℕ) (text : List ℕ) → Says run.work status text → (status ≡ 0) × (text ≡ line)) → Ends run ended

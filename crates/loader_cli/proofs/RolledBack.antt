@@ -24,13 +24,7 @@ use Rattle.loader_cli.specs.declared.answer.Answer.{Answer}
 use Rattle.loader_cli.specs.Rollbacks.{IsOfFormer, RollsBackAs}
 use Rattle.loader_cli.specs.Rollbacks.RollsBackAs.{none_active, none_former, rollback_failed, rolled_back}
 use Rattle.loader_cli.specs.Texts.{no_configuration, no_former}
-use Rattle.loader_cli.proofs.OneOutput.{ImageLaws}
-
--- what the law says of the former configuration of an image
-pub record FormerLaws : Type 0 where
-  pub not_both : (image : Image) (s : StandingView) (f : FormerFault) → HoldsFormer image s → HasNoFormer image f → ⊥
-  pub one_former : (image : Image) (s t : StandingView) → HoldsFormer image s → HoldsFormer image t → s ≡ t
-  pub one_fault : (image : Image) (f g : FormerFault) → HasNoFormer image f → HasNoFormer image g → f ≡ g
+use Rattle.loader_cli.specs.CommandLaws.{FormerLaws, ImageLaws}
 
 -- ---- where it is done
 

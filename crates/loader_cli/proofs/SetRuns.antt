@@ -6,7 +6,7 @@ use Rattle.std.proofs.lemmas.List.{length-map}
 use Rattle.load_base.specs.Counts.{Rose}
 use Rattle.load_base.specs.Host.{Files}
 use Rattle.media_check.specs.declared.built.Built.{Built}
-use Rattle.media_build.specs.Building.{AnswersSizes, Builds as BuildsOf, CanTake, HaveSizes, IsFirstRefused, IsSizeFault, IsSmallSet, fixed_length, source_names, sources_in}
+use Rattle.media_build.specs.Building.{AnswersSizes, Builds as BuildsOf, CanTake, HaveSizes, fixed_length, source_names, sources_in}
 use Rattle.media_build.specs.GeneratedSet.{generated_lines, generated_sources}
 use Rattle.media_build.specs.HostWrites.{WritesAllFiles, WritesTold, written_files}
 use Rattle.media_build.specs.NoFindings.{body_view, built_view}
@@ -31,16 +31,8 @@ use Rattle.loader_cli.specs.Runs.{Run, Says, host_work, BuildsRightSet, MakesSet
 use Rattle.loader_cli.specs.Runs.WritesInto.{of_recipe, of_number}
 use Rattle.loader_cli.specs.Runs.LeavesSet.{has_built, has_made}
 use Rattle.loader_cli.specs.Texts.{built_line}
+use Rattle.loader_cli.specs.CommandLaws.{BuildingLaws}
 use Rattle.loader_cli.proofs.Asked.{says_of_build, says_of_make}
-
--- What the laws of building say, which the run calls.
-pub record BuildingLaws : Type 0 where
-  pub sizes : (lines : List RecipeLine) (fault : BuildFault) → HaveSizes lines → IsSizeFault lines fault → fault ≡ Memory
-  pub sources : (files : Files) (others : ℕ) (names : List (List ℕ)) (fault : BuildFault) → CanTake files others names → ¬ IsFirstRefused files others names fault
-  pub built : (folder text : List ℕ) (lines : List RecipeLine) (built : Built) (files old new : Files) → recipe_said text ≡ Ok lines → AnswersSizes lines (Ok built)
-      → BuildsOf lines (Ok built) files → IsSmallSet built → WritesAllFiles (written_files folder built) old new (Ok tt) → HoldsWritten folder old new (sources_in files) lines
-  pub made : (folder : List ℕ) (number : ℕ) (built : Built) (old new : Files) → built_view built ≡ recipe_set (generated_sources number) generated_lines → IsSmallSet built
-      → WritesAllFiles (written_files folder built) old new (Ok tt) → HoldsWritten folder old new (generated_sources number) generated_lines
 
 -- ---- what the host has
 

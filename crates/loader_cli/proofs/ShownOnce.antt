@@ -10,7 +10,7 @@ use Rattle.batch_lists.specs.declared.fault.BatchFault.TheVariants as batches
 use Rattle.batch_lists.specs.declared.fault.BatchesFault.TheVariants as batches_lists
 use Rattle.load_base.specs.Bytes.{same_bytes}
 use Rattle.field_grammar.proofs.ExactLemmas.{not_both, one_fault, one_value, spelled_at_start}
-use Rattle.field_grammar.specs.Grammar.{Fault, Grammar, Spelled}
+use Rattle.field_grammar.specs.Grammar.{Fault, Grammar}
 use Rattle.load_header.specs.Header.{header}
 use Rattle.load_header.specs.HeaderFaultText.{header_fault_text}
 use Rattle.load_header.specs.HeaderFields.{HeaderSpells}
@@ -35,25 +35,9 @@ use Rattle.shown_files.specs.ProtocolText.{shown_lci, shown_lcl, shown_lcs, show
 use Rattle.shown_files.specs.Shown.{HasFault, HasFields, IsTextOfFault, IsTextOfValue}
 use Rattle.shown_files.specs.declared.kind.ShownKind.{ShownKind}
 use Rattle.shown_files.specs.declared.kind.ShownKind.TheVariants as kinds
+use Rattle.loader_cli.specs.CommandLaws.{ShownLaws, TellsSpelled}
 
 -- ---- by the bytes
-
--- what is a spelling of a value is one by the format's tree
-abbrev pub TellsSpelled : {F V : Type 0} → Grammar F V → (V → List ℕ → Type 0) → Type 0
-TellsSpelled {F} {V} g Spells = (value : V) (bytes : List ℕ) → Spells value bytes → Spelled g bytes value
-
-pub record ShownLaws : Type 0 where
-  pub of_header : TellsSpelled header HeaderSpells
-  pub of_loads : TellsSpelled loads_list LoadsSpells
-  pub of_files : TellsSpelled files_list FilesSpells
-  pub of_batches : TellsSpelled batches_list BatchesSpells
-  pub of_batch : TellsSpelled batch BatchSpells
-  pub of_lci : TellsSpelled lci LciSpells
-  pub of_lcl : TellsSpelled lcl LclSpells
-  pub of_lcs : TellsSpelled lcs LcsSpells
-  pub of_lui : TellsSpelled lui LuiSpells
-  pub of_lur : TellsSpelled lur LurSpells
-  pub of_lus : TellsSpelled lus LusSpells
 
 -- one text has the fields, or one has the fault
 pub record IsOnce (Fields Faulty : List ℕ → Type 0) : Type 0 where

@@ -18,9 +18,8 @@ use Rattle.accept_rules.specs.Permissions.{Grants, keeps_part, permits}
 use Rattle.media_check.specs.Sets.{SetView}
 use Rattle.session_rules.specs.Loader.{EndedSession}
 use Rattle.replay_rules.specs.Due.{LeavesPower}
-use Rattle.run_promises.specs.Listing.{WhatIsHeldFits}
 use Rattle.generated_uploads.specs.GeneratedMedia.{IsGeneratedSet, uploaded_load}
-use Rattle.generated_uploads.specs.GeneratedUploads.{GeneratedUploadsComplete, IsGeneratedUpload, IsOfTrial, IsOneUpload, OnlyTrialHappens, trial_script}
+use Rattle.generated_uploads.specs.GeneratedUploads.{IsGeneratedUpload, IsOfTrial, IsOneUpload, trial_script}
 use Rattle.upload_replay.specs.Endings.{HeldNone, HoldsNone, HoldsSome}
 use Rattle.replay_turns.specs.Powers.{disk_stops}
 use Rattle.loader_cli.specs.Replays.{HoldsScriptRun, IsAnyRun, IsCompleted, IsScriptRun, LeavesFirstOrGood, RunSeen, RunsScript, RunsTo, StatusOfRun, setting_of, told_as}
@@ -30,16 +29,11 @@ use Rattle.loader_cli.specs.Runs.{Run, Says, TriesSound}
 use Rattle.loader_cli.specs.Trials.{Trials}
 use Rattle.loader_cli.specs.Trials.Trials.{no_target, target_unread, tried}
 use Rattle.loader_cli.specs.declared.replay.Telling.TheVariants.{Report}
+use Rattle.loader_cli.specs.CommandLaws.{UploadLaws}
 use Rattle.loader_cli.proofs.Asked.{says_of_trial}
 use Rattle.loader_cli.proofs.Left.{accepts_permitted}
 use Rattle.loader_cli.proofs.ReplayRuns.{EndLaws, read_of}
 use Rattle.loader_cli.proofs.StaysUp.{none_down, none_stops, rose_once}
-
--- what the laws say of an upload of the generated set, and of what a disk holds
-pub record UploadLaws : Type 0 where
-  pub completes : GeneratedUploadsComplete
-  pub happens : OnlyTrialHappens
-  pub fits : WhatIsHeldFits
 
 -- ---- power is left alone
 

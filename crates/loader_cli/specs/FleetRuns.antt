@@ -75,6 +75,13 @@ FleetRunsOut {K} state old new = (new ≡ old) ⊎ (RanOutFirst state old new �
 abbrev pub AllLeaveFirstOrGood : {K : Type 0} → (state : K → DiskState) → (old new : List K) → Type 0
 AllLeaveFirstOrGood {K} state old new = AllBetween (λ i before after. LeavesFirstOrGood (state before) (state after)) old new
 
+-- What becomes of a fleet's disks, whatever is answered: they are as many as they were; which are written; and what a power loss
+-- leaves of each.
+pub record LeavesFleet {K : Type 0} (state : K → DiskState) (old new : List K) : Type 0 where
+  pub as_many : length new ≡ length old
+  pub held : WritesWhereAllHold state old new
+  pub leaves : AllLeaveFirstOrGood state old new
+
 -- What `fleet` has to say, in which no failure of the host is hidden.
 pub record FleetTellsAll {K : Type 0} (state : K → DiskState) (work : FleetWork K) (handed : Option FleetSeen) (status : ℕ) (text : List ℕ) : Type 0 where
   pub says : FleetSays state work handed status text

@@ -2,6 +2,7 @@ pub mod Answers
 pub mod Builds
 pub mod Calls
 pub mod Chains
+pub mod CommandLaws
 pub mod Commands
 pub mod FixedOutputs
 pub mod FleetReplays

@@ -4,20 +4,14 @@ use Rattle.load_base.specs.Host.{Files}
 use Rattle.load_base.specs.declared.list.NoMemory.{NoMemory}
 use Rattle.disk_model.specs.State.{DiskState}
 use Rattle.loader_cli.specs.Answers.{status_of, text_of}
-use Rattle.loader_cli.specs.Commands.{IsCommand, IsNo, IsOfFleet, UsesScript}
+use Rattle.loader_cli.specs.Commands.{IsCommand}
 use Rattle.loader_cli.specs.Commands.CommandView.{fleet as fleet_command}
 use Rattle.loader_cli.specs.FleetReplays.{fleet_seen}
-use Rattle.loader_cli.specs.FleetRuns.{AllLeaveFirstOrGood, FleetRunsOut, FleetTellsAll, FleetWork, WritesWhereAllHold}
+use Rattle.loader_cli.specs.FleetRuns.{FleetRunsOut, FleetTellsAll, FleetWork, LeavesFleet}
 use Rattle.loader_cli.specs.Replays.{RunSeen, run_seen}
 use Rattle.loader_cli.specs.Runs.{RunsOutInCommand, TellsAll, Work}
-use Rattle.loader_cli.specs.Touches.{KeepsOthers, LeavesByCommand, OnNamed, TouchesDisk, TouchesHost}
+use Rattle.loader_cli.specs.Touches.{HandsOutByCommand, KeepsOthers, LeavesByCommand, OnNamed, TouchesDisk, TouchesHost}
 use Rattle.loader_cli.specs.declared.answer.Answered.{Answered}
-
--- A run is handed out of no command but those that run a script: of one unit, or of a fleet by `fleet` alone.
-pub record HandsOutByCommand {D F : Type 0} (words : List (List ℕ)) (drive : Option D) (of_fleet : Option F) : Type 0 where
-  pub no_run : IsNo UsesScript words → drive ≡ None
-  pub no_fleet : IsNo IsOfFleet words → of_fleet ≡ None
-  pub none_beside : (count : ℕ) (folder script : List ℕ) → IsCommand words (fleet_command count folder script) → drive ≡ None
 
 -- what the arguments work on, where they name this disk
 abbrev pub work_on : {H K : Type 0} → (files : H → Option Files) → (faults : H → ℕ) → (state : K → DiskState) → (words : List (List ℕ)) → (host host_after : H) → (before after : K) → (handed : Option RunSeen) → Work
@@ -45,22 +39,26 @@ fleet_work_on files faults folder script host host_after disks disks_after = rec
   handed = None;
 }
 
--- What a fleet on these disks is answered: what there is to say, or that memory ran out, which hides no failure of the host or of a disk; which
--- disks are written, and what is left of each.
+-- What a command of one unit is answered, on the disk of that unit: what there is to say, or that memory ran out; what it touches
+-- of the disk and of the host; and what a power loss leaves.
+pub record AnswersUnit {H K : Type 0} (files : H → Option Files) (faults : H → ℕ) (state : K → DiskState) (words : List (List ℕ)) (host_old host_new : H) (before after : K) (result : Result Answered NoMemory) : Type 0 where
+  pub tells : IfOk result (λ said. TellsAll (work_on files faults state words host_old host_new before after (option_map run_seen said.drive)) (status_of said.answer) (text_of said.answer))
+  pub no_memory : OnErr result (RunsOutInCommand (work_on files faults state words host_old host_new before after None))
+  pub disk : TouchesDisk words before after (state before) (state after)
+  pub host : TouchesHost words host_old host_new (files host_old) (files host_new)
+  pub leaves : LeavesByCommand words (state before) (state after)
+
+-- What a fleet on these disks is answered: what there is to say, or that memory ran out, which hides no failure of the host or
+-- of a disk; and what becomes of the disks.
 pub record AnswersFleet {K : Type 0} (state : K → DiskState) (work : FleetWork K) (result : Result Answered NoMemory) : Type 0 where
   pub tells : IfOk result (λ said. FleetTellsAll state work (option_map fleet_seen said.fleet) (status_of said.answer) (text_of said.answer))
   pub no_memory : OnErr result ((work.host_faults_after ≡ work.host_faults) × FleetRunsOut state work.disks work.disks_after)
-  pub held : WritesWhereAllHold state work.disks work.disks_after
-  pub leaves : AllLeaveFirstOrGood state work.disks work.disks_after
+  pub left : LeavesFleet state work.disks work.disks_after
 
--- What the arguments are answered: of the disk that they name what there is to say, or that memory ran out, what becomes of it
--- and what a power loss leaves; the same of the disks of a fleet; and of all others, and of the host, that they aren't touched.
+-- What the arguments are answered, of the disk that they name, or of the disks of a fleet; and of all other disks, and of the
+-- host, that they aren't touched.
 pub record AnswersAsAsked {H K : Type 0} (files : H → Option Files) (faults : H → ℕ) (state : K → DiskState) (words : List (List ℕ)) (host_old host_new : H) (disks disks_after : List K) (result : Result Answered NoMemory) : Type 0 where
-  pub tells : OnNamed words disks disks_after (λ before after.
-      IfOk result (λ said. TellsAll (work_on files faults state words host_old host_new before after (option_map run_seen said.drive)) (status_of said.answer) (text_of said.answer)))
-  pub no_memory : OnNamed words disks disks_after (λ before after. OnErr result (RunsOutInCommand (work_on files faults state words host_old host_new before after None)))
-  pub disk : OnNamed words disks disks_after (λ before after. TouchesDisk words before after (state before) (state after))
-  pub leaves : OnNamed words disks disks_after (λ before after. LeavesByCommand words (state before) (state after))
+  pub unit : OnNamed words disks disks_after (λ before after. AnswersUnit files faults state words host_old host_new before after result)
   pub fleet : (count : ℕ) (folder script : List ℕ) → IsCommand words (fleet_command count folder script)
       → AnswersFleet state (fleet_work_on files faults folder script host_old host_new (take count disks) (take count disks_after)) result
   pub others : KeepsOthers words disks disks_after

@@ -1,5 +1,5 @@
 -- What a command touches, and what a power loss leaves of the disk, whatever it answers (docs/PROMISES.md).
-use Rattle.std.specs.Prelude.{◌≡◌, ◌≢◌, ℕ, ◌<◌, ◌≤◌, List, length, slice_get, Option, Some, false}
+use Rattle.std.specs.Prelude.{◌≡◌, ◌≢◌, ℕ, ◌<◌, ◌≤◌, List, length, slice_get, Option, Some, None, false}
 use Rattle.std.specs.Option.{ForSome}
 use Rattle.load_base.specs.Host.{Files}
 use Rattle.disk_model.specs.Image.{Image}
@@ -61,3 +61,17 @@ pub record LeavesByCommand (words : List (List ℕ)) (old new : DiskState) : Typ
   pub while_formatting : (id : Identity) → IsCommand words (format id) → LeavesOldOrFormatted id old new
   pub while_rolling_back : IsCommand words rollback → LeavesRollback old new
   pub while_running : IsNo FormatsOrRollsBack words → LeavesFirstOrGood old new
+
+-- A run is handed out of no command but those that run a script: of one unit, or of a fleet by `fleet` alone.
+pub record HandsOutByCommand {D F : Type 0} (words : List (List ℕ)) (drive : Option D) (of_fleet : Option F) : Type 0 where
+  pub no_run : IsNo UsesScript words → drive ≡ None
+  pub no_fleet : IsNo IsOfFleet words → of_fleet ≡ None
+  pub none_beside : (count : ℕ) (folder script : List ℕ) → IsCommand words (fleet count folder script) → drive ≡ None
+
+-- What the arguments touch, whatever they are answered, is what they use: the disk that they name, no other disk but a fleet's,
+-- the host; and the run that they hand out is one that they asked for.
+pub record TouchesOnly {H K D F : Type 0} (files : H → Option Files) (state : K → DiskState) (words : List (List ℕ)) (host_old host_new : H) (disks disks_after : List K) (drive : Option D) (of_fleet : Option F) : Type 0 where
+  pub disk : OnNamed words disks disks_after (λ before after. TouchesDisk words before after (state before) (state after))
+  pub others : KeepsOthers words disks disks_after
+  pub host : TouchesHost words host_old host_new (files host_old) (files host_new)
+  pub hands_out : HandsOutByCommand words drive of_fleet

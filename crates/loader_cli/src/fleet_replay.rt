@@ -7,7 +7,7 @@ ghost use Rattle.target_fleet.specs.Units.{AllDisks};
 ghost use Rattle.loader_cli.specs.Answers.{HidesNoFault, answered_status, status_of, text_of};
 ghost use Rattle.loader_cli.specs.FleetReplays.{FleetRunsText, ReplaysFleet, RunsFleet, TellsFleet};
 ghost use Rattle.loader_cli.specs.FleetReplays.{HasCompletedAll, IsBatchCompleted, fleet_seen};
-ghost use Rattle.loader_cli.specs.FleetRuns.{AllLeaveFirstOrGood, FleetRunsOut, WritesWhereAllHold};
+ghost use Rattle.loader_cli.specs.FleetRuns.{FleetRunsOut, LeavesFleet};
 
 use crate::answer::{Answer, Answered};
 use crate::inputs::{Inputs, read_inputs, refused_script};
@@ -41,9 +41,7 @@ pub(crate) fn replay_fleet<'w, H: Host, K: Power>(
     ensures faults { HidesNoFault answered_status (H.faults host.old) (H.faults host.new)
         result }
     ensures kept { H.files host.new ≡ H.files host.old }
-    ensures same { length disks.new ≡ length disks.old }
-    ensures leaves { AllLeaveFirstOrGood K.state disks.old disks.new }
-    ensures held { WritesWhereAllHold K.state disks.old disks.new }
+    ensures left { LeavesFleet K.state disks.old disks.new }
     ensures memory { OnErr result (FleetRunsOut K.state disks.old disks.new) }
     ensures no_drive { IfOk result (λ said. said.drive ≡ None) }
 {
@@ -73,9 +71,7 @@ fn run_fleet_text<'w, K: Power>(
     ensures runs { IfOk result (λ said. FleetRunsText K.state name.now text.now (set_view set.now)
         disks.old disks.new (option_map fleet_seen said.fleet) (status_of said.answer)
         (text_of said.answer)) }
-    ensures same { length disks.new ≡ length disks.old }
-    ensures leaves { AllLeaveFirstOrGood K.state disks.old disks.new }
-    ensures held { WritesWhereAllHold K.state disks.old disks.new }
+    ensures left { LeavesFleet K.state disks.old disks.new }
     ensures memory { OnErr result (FleetRunsOut K.state disks.old disks.new) }
     ensures no_drive { IfOk result (λ said. said.drive ≡ None) }
 {
@@ -100,9 +96,7 @@ fn run_fleet<'w, K: Power>(
     ensures runs { IfOk result (λ said. RunsFleet K.state (set_view set.now) script.lines disks.old
         disks.new (option_map fleet_seen said.fleet) (status_of said.answer)
         (text_of said.answer)) }
-    ensures same { length disks.new ≡ length disks.old }
-    ensures leaves { AllLeaveFirstOrGood K.state disks.old disks.new }
-    ensures held { WritesWhereAllHold K.state disks.old disks.new }
+    ensures left { LeavesFleet K.state disks.old disks.new }
     ensures memory { OnErr result (FleetRunsOut K.state disks.old disks.new) }
     ensures no_drive { IfOk result (λ said. said.drive ≡ None) }
 {

@@ -22,16 +22,12 @@ ghost use Rattle.loader_cli.specs.Replays.{setting_of};
 ghost use Rattle.loader_cli.specs.declared.replay.Telling.{Telling};
 ghost use Rattle.loader_cli.specs.declared.top_call.Ended.{Ended};
 
+use crate::top_call::command_laws;
 use bank_store::a_power_loss_takes_only_work;
-use batch_lists::{batch_laws, batches_list_laws};
 use disk_layout::an_image_holds_one_configuration;
 use disk_model::Power;
 use fixed_runs::laws::a_run_is_fixed_by_its_script;
 use load_base::{Host, Sink};
-use load_header::header_laws;
-use load_protocol_files::protocol_file_laws;
-use media_lists::{files_list_laws, loads_list_laws};
-use recovery::an_image_holds_one_former;
 
 /// What `replay` and `wire` put is a function of their arguments, of the host's files and of what
 /// the disk that they use reads at the start, where neither host nor sink nor disk fails and the
@@ -100,15 +96,8 @@ pub fn two_calls_put_the_same<H: Host, O: Sink, K: Power>()
         (run_of H.files H.faults O.content O.faults K.state two) first second) }
 {
     // For the proof: these do nothing.
-    an_image_holds_one_configuration();
-    an_image_holds_one_former();
     a_run_is_fixed_by_its_script();
-    header_laws();
-    loads_list_laws();
-    files_list_laws();
-    batches_list_laws();
-    batch_laws();
-    protocol_file_laws();
+    command_laws();
 }
 
 /// Commands follow one another on each unit's disk, whatever commands of other units and whatever

@@ -6,16 +6,17 @@ ghost use Rattle.disk_model.specs.State.{KeepsPower};
 ghost use Rattle.disk_layout.specs.Offsets.{IsBankSize};
 ghost use Rattle.bank_store.specs.Formatting.{LeavesOldOrFormatted};
 ghost use Rattle.loader_cli.specs.Answers.{answered_of, status_of, text_of};
+ghost use Rattle.loader_cli.specs.CommandLaws.{BuildingLaws, FormerLaws, ImageLaws, ShownLaws};
+ghost use Rattle.loader_cli.specs.CommandLaws.{UploadLaws};
 ghost use Rattle.loader_cli.specs.FleetReplays.{fleet_seen};
 ghost use Rattle.loader_cli.specs.FleetRuns.{FleetEndsAsPromised};
 ghost use Rattle.loader_cli.specs.Commands.CommandView.{fleet};
 ghost use Rattle.loader_cli.specs.Commands.{command_view, disk_named, texts_of, IsCommand};
 ghost use Rattle.loader_cli.specs.Commands.{UsesScript};
 ghost use Rattle.loader_cli.specs.Replays.{run_seen};
-ghost use Rattle.loader_cli.specs.Runs.{EndsAsPromised, Formats, Lists, RunsOutInCommand, TellsAll};
-ghost use Rattle.loader_cli.specs.Touches.{KeepsOthers, LeavesByCommand, OnNamed, OnlyLooks};
-ghost use Rattle.loader_cli.specs.Told.{AnswersAsAsked, HandsOutByCommand};
-ghost use Rattle.loader_cli.specs.Touches.{TouchesDisk, TouchesHost};
+ghost use Rattle.loader_cli.specs.Runs.{EndsAsPromised, Formats, Lists};
+ghost use Rattle.loader_cli.specs.Told.{AnswersAsAsked, AnswersUnit};
+ghost use Rattle.loader_cli.specs.Touches.{LeavesByCommand, OnNamed, OnlyLooks, TouchesOnly};
 ghost use Rattle.replay_turns.specs.Turns.{RunsOut};
 
 use crate::answer::{Answer, Answered};
@@ -149,30 +150,14 @@ pub fn run<H: Host, O: Sink, K: Power>(
           sink_faults_after = O.faults out.new;
         }) result }
     // What is touched, in every ending.
-    ensures disk { OnNamed (texts_of words.now) disks.old disks.new (λ before after.
-        TouchesDisk (texts_of words.now) before after (K.state before) (K.state after)) }
-    ensures others { KeepsOthers (texts_of words.now) disks.old disks.new }
-    ensures host { TouchesHost (texts_of words.now) host.old host.new (H.files host.old)
-        (H.files host.new) }
-    ensures hands_out { HandsOutByCommand (texts_of words.now) result.drive result.fleet }
+    ensures touches { TouchesOnly H.files K.state (texts_of words.now) host.old host.new disks.old
+        disks.new result.drive result.fleet }
     // What a power loss leaves.
     ensures leaves { OnNamed (texts_of words.now) disks.old disks.new (λ before after.
         LeavesByCommand (texts_of words.now) (K.state before) (K.state after)) }
 {
-    // For the proof: these do nothing.
-    building_laws();
-    a_written_folder_holds_the_set();
-    an_image_holds_one_configuration();
-    an_image_holds_one_former();
-    what_a_disk_holds_can_be_listed();
-    only_a_trial_happens();
-    a_generated_upload_completes();
-    header_laws();
-    loads_list_laws();
-    files_list_laws();
-    batches_list_laws();
-    batch_laws();
-    protocol_file_laws();
+    // For the proof: this does nothing.
+    command_laws();
     let Ok(
         Answered {
             answer,
@@ -205,6 +190,29 @@ pub fn run<H: Host, O: Sink, K: Power>(
             out_of_memory()
         }
     }
+}
+
+/// What the promises of [`run`] rest on, of images, sets and files. It does nothing.
+pub(crate) fn command_laws()
+    ensures images { ImageLaws }
+    ensures formers { FormerLaws }
+    ensures building { BuildingLaws }
+    ensures uploads { UploadLaws }
+    ensures shows { ShownLaws }
+{
+    building_laws();
+    a_written_folder_holds_the_set();
+    an_image_holds_one_configuration();
+    an_image_holds_one_former();
+    what_a_disk_holds_can_be_listed();
+    only_a_trial_happens();
+    a_generated_upload_completes();
+    header_laws();
+    loads_list_laws();
+    files_list_laws();
+    batches_list_laws();
+    batch_laws();
+    protocol_file_laws();
 }
 
 fn out_of_memory() -> Ended
@@ -295,37 +303,11 @@ fn answer_on<'w, H: Host, K: Power>(
 ) -> Result<Answered<'w>, NoMemory>
     requires asked { (words : List (List ℕ)) × IsCommand words (command_view command.now) }
     requires running { (K.state disk.old).stopped ≡ false }
-    ensures tells { (words : List (List ℕ)) → IsCommand words (command_view command.now)
-        → IfOk result (λ said. TellsAll (record {
-          words = words;
-          disk = K.state disk.old;
-          disk_after = K.state disk.new;
-          files = H.files host.old;
-          files_after = H.files host.new;
-          host_faults = H.faults host.old;
-          host_faults_after = H.faults host.new;
-          handed = option_map run_seen said.drive;
-        }) (status_of said.answer) (text_of said.answer)) }
-    ensures no_memory { (words : List (List ℕ)) → IsCommand words (command_view command.now)
-        → OnErr result (RunsOutInCommand (record {
-          words = words;
-          disk = K.state disk.old;
-          disk_after = K.state disk.new;
-          files = H.files host.old;
-          files_after = H.files host.new;
-          host_faults = H.faults host.old;
-          host_faults_after = H.faults host.new;
-          handed = None;
-        })) }
-    ensures disk { (words : List (List ℕ)) → IsCommand words (command_view command.now)
-        → TouchesDisk words disk.old disk.new (K.state disk.old) (K.state disk.new) }
-    ensures host { (words : List (List ℕ)) → IsCommand words (command_view command.now)
-        → TouchesHost words host.old host.new (H.files host.old) (H.files host.new) }
+    ensures answers { (words : List (List ℕ)) → IsCommand words (command_view command.now)
+        → AnswersUnit H.files H.faults K.state words host.old host.new disk.old disk.new result }
     ensures no_run { ¬ UsesScript (command_view command.now)
         → IfOk result (λ said. said.drive ≡ None) }
     ensures no_fleet { IfOk result (λ said. said.fleet ≡ None) }
-    ensures leaves { (words : List (List ℕ)) → IsCommand words (command_view command.now)
-        → LeavesByCommand words (K.state disk.old) (K.state disk.new) }
 {
     // For the proof: these do nothing.
     a_power_loss_takes_only_work::<K>();

@@ -22,17 +22,21 @@ returns-in-Refused-clause-replays g c =
     let refuses = rw (c.as_bytes.ensures.value, c.as_bytes-2.ensures.value) at reads in
     rw (c.of.ensures.answer, c.of.ensures.fleet) (unread (no_text refuses) refl refl)
 
-pub returns-in-Refused-clause-leaves : goal.returns-in-Refused-clause-leaves
-returns-in-Refused-clause-leaves g c = untouched_fleet g.K.Disk.state g.met.K.Disk.only_now c.a_power_loss_takes_only_work.ensures.holds c.args.disks.now
+pub returns-in-Refused-clause-left : goal.returns-in-Refused-clause-left
+returns-in-Refused-clause-left g c =
+    record {
+      as_many = refl;
+      held = inl (all_read_same g.K.Disk.state c.args.disks.now);
+      leaves = untouched_fleet g.K.Disk.state g.met.K.Disk.only_now c.a_power_loss_takes_only_work.ensures.holds c.args.disks.now;
+    }
 
-pub returns-in-Refused-clause-held : goal.returns-in-Refused-clause-held
-returns-in-Refused-clause-held g c = inl (all_read_same g.K.Disk.state c.args.disks.now)
-
-pub returns-in_err-set-clause-leaves : goal.returns-in_err-set-clause-leaves
-returns-in_err-set-clause-leaves g c = untouched_fleet g.K.Disk.state g.met.K.Disk.only_now c.a_power_loss_takes_only_work.ensures.holds c.args.disks.now
-
-pub returns-in_err-set-clause-held : goal.returns-in_err-set-clause-held
-returns-in_err-set-clause-held g c = inl (all_read_same g.K.Disk.state c.args.disks.now)
+pub returns-in_err-set-clause-left : goal.returns-in_err-set-clause-left
+returns-in_err-set-clause-left g c =
+    record {
+      as_many = refl;
+      held = inl (all_read_same g.K.Disk.state c.args.disks.now);
+      leaves = untouched_fleet g.K.Disk.state g.met.K.Disk.only_now c.a_power_loss_takes_only_work.ensures.holds c.args.disks.now;
+    }
 
 pub returns-in_err-set-clause-memory : goal.returns-in_err-set-clause-memory
 returns-in_err-set-clause-memory g c = anyway c.from_residual.result _ (inl refl)

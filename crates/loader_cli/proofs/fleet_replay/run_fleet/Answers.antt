@@ -38,44 +38,45 @@ returns-in-Err-NoConfig-clause-runs g c =
     (subst (λ (reason : RecoverFault). RunsFleet g.K.Disk.state (set_view c.args.set.now) c.args.script.lines c.args.disks.now c.fleet.new.disks None 8 (no_configuration reason)) (sym c.in-Err-NoConfig.fault-is)
     (fleet_holds_none g.K.Disk.state c.args.disks.now c.fleet.new.disks (set_view c.args.set.now) c.args.script.lines c.in-Err-NoConfig.field-0-is c.in-Err-NoConfig.ensures.refused))
 
-pub returns-in-Ok-clause-leaves : goal.returns-in-Ok-clause-leaves
-returns-in-Ok-clause-leaves g c =
-    fleet_leaves g.K.Disk.state _ _ (set_view c.args.set.now) (λ fields kept answer said. said.says ∙ ap (λ h. permits h kept) said.same) c.args.disks.now c.fleet.new.disks c.fleet.ensures.good
+pub returns-in-Ok-clause-left : goal.returns-in-Ok-clause-left
+returns-in-Ok-clause-left g c =
+    record {
+      as_many = c.fleet.ensures.same;
+      held = inr (all_stood g.K.Disk.state _ _ (set_view c.args.set.now) (λ fields kept answer said. said.says ∙ ap (λ h. permits h kept) said.same) c.in-Ok.run' c.args.disks.now c.fleet.new.disks (c.in-Ok.ensures.ended.units ∙ (ap (λ (link : FleetLinkState). link.units) c.new-link.ensures ∙ c.requires.units)) c.fleet.ensures.same c.in-Ok.ensures.units);
+      leaves = fleet_leaves g.K.Disk.state _ _ (set_view c.args.set.now) (λ fields kept answer said. said.says ∙ ap (λ h. permits h kept) said.same) c.args.disks.now c.fleet.new.disks c.fleet.ensures.good;
+    }
 
-pub returns-in_err-answer-in-Ok-clause-leaves : goal.returns-in_err-answer-in-Ok-clause-leaves
-returns-in_err-answer-in-Ok-clause-leaves g c =
-    fleet_leaves g.K.Disk.state _ _ (set_view c.args.set.now) (λ fields kept answer said. said.says ∙ ap (λ h. permits h kept) said.same) c.args.disks.now c.fleet.new.disks c.fleet.ensures.good
+pub returns-in_err-answer-in-Ok-clause-left : goal.returns-in_err-answer-in-Ok-clause-left
+returns-in_err-answer-in-Ok-clause-left g c =
+    record {
+      as_many = c.fleet.ensures.same;
+      held = inr (all_stood g.K.Disk.state _ _ (set_view c.args.set.now) (λ fields kept answer said. said.says ∙ ap (λ h. permits h kept) said.same) c.in-Ok.run' c.args.disks.now c.fleet.new.disks (c.in-Ok.ensures.ended.units ∙ (ap (λ (link : FleetLinkState). link.units) c.new-link.ensures ∙ c.requires.units)) c.fleet.ensures.same c.in-Ok.ensures.units);
+      leaves = fleet_leaves g.K.Disk.state _ _ (set_view c.args.set.now) (λ fields kept answer said. said.says ∙ ap (λ h. permits h kept) said.same) c.args.disks.now c.fleet.new.disks c.fleet.ensures.good;
+    }
 
-pub returns-in-Err-Disk-clause-leaves : goal.returns-in-Err-Disk-clause-leaves
-returns-in-Err-Disk-clause-leaves g c =
-    fleet_leaves g.K.Disk.state _ _ (set_view c.args.set.now) (λ fields kept answer said. said.says ∙ ap (λ h. permits h kept) said.same) c.args.disks.now c.fleet.new.disks c.fleet.ensures.good
+pub returns-in-Err-Disk-clause-left : goal.returns-in-Err-Disk-clause-left
+returns-in-Err-Disk-clause-left g c =
+    record {
+      as_many = c.fleet.ensures.same;
+      held = refused_held g.K.Disk.state c.args.disks.now c.fleet.new.disks c.in-Err-Disk.field-0 c.in-Err-Disk.ensures.refused;
+      leaves = fleet_leaves g.K.Disk.state _ _ (set_view c.args.set.now) (λ fields kept answer said. said.says ∙ ap (λ h. permits h kept) said.same) c.args.disks.now c.fleet.new.disks c.fleet.ensures.good;
+    }
 
-pub returns-in-Err-NoConfig-clause-leaves : goal.returns-in-Err-NoConfig-clause-leaves
-returns-in-Err-NoConfig-clause-leaves g c =
-    fleet_leaves g.K.Disk.state _ _ (set_view c.args.set.now) (λ fields kept answer said. said.says ∙ ap (λ h. permits h kept) said.same) c.args.disks.now c.fleet.new.disks c.fleet.ensures.good
+pub returns-in-Err-NoConfig-clause-left : goal.returns-in-Err-NoConfig-clause-left
+returns-in-Err-NoConfig-clause-left g c =
+    record {
+      as_many = c.fleet.ensures.same;
+      held = refused_held g.K.Disk.state c.args.disks.now c.fleet.new.disks c.in-Err-NoConfig.field-0 c.in-Err-NoConfig.ensures.refused;
+      leaves = fleet_leaves g.K.Disk.state _ _ (set_view c.args.set.now) (λ fields kept answer said. said.says ∙ ap (λ h. permits h kept) said.same) c.args.disks.now c.fleet.new.disks c.fleet.ensures.good;
+    }
 
-pub returns-clause-leaves : goal.returns-clause-leaves
-returns-clause-leaves g c =
-    fleet_leaves g.K.Disk.state _ _ (set_view c.args.set.now) (λ fields kept answer said. said.says ∙ ap (λ h. permits h kept) said.same) c.args.disks.now c.fleet.new.disks c.fleet.ensures.good
-
-pub returns-in-Ok-clause-held : goal.returns-in-Ok-clause-held
-returns-in-Ok-clause-held g c =
-    inr (all_stood g.K.Disk.state _ _ (set_view c.args.set.now) (λ fields kept answer said. said.says ∙ ap (λ h. permits h kept) said.same) c.in-Ok.run' c.args.disks.now c.fleet.new.disks
-    (c.in-Ok.ensures.ended.units ∙ (ap (λ (link : FleetLinkState). link.units) c.new-link.ensures ∙ c.requires.units)) c.fleet.ensures.same c.in-Ok.ensures.units)
-
-pub returns-in_err-answer-in-Ok-clause-held : goal.returns-in_err-answer-in-Ok-clause-held
-returns-in_err-answer-in-Ok-clause-held g c =
-    inr (all_stood g.K.Disk.state _ _ (set_view c.args.set.now) (λ fields kept answer said. said.says ∙ ap (λ h. permits h kept) said.same) c.in-Ok.run' c.args.disks.now c.fleet.new.disks
-    (c.in-Ok.ensures.ended.units ∙ (ap (λ (link : FleetLinkState). link.units) c.new-link.ensures ∙ c.requires.units)) c.fleet.ensures.same c.in-Ok.ensures.units)
-
-pub returns-in-Err-Disk-clause-held : goal.returns-in-Err-Disk-clause-held
-returns-in-Err-Disk-clause-held g c = refused_held g.K.Disk.state c.args.disks.now c.fleet.new.disks c.in-Err-Disk.field-0 c.in-Err-Disk.ensures.refused
-
-pub returns-in-Err-NoConfig-clause-held : goal.returns-in-Err-NoConfig-clause-held
-returns-in-Err-NoConfig-clause-held g c = refused_held g.K.Disk.state c.args.disks.now c.fleet.new.disks c.in-Err-NoConfig.field-0 c.in-Err-NoConfig.ensures.refused
-
-pub returns-clause-held : goal.returns-clause-held
-returns-clause-held g c = refused_held g.K.Disk.state c.args.disks.now c.fleet.new.disks c.in-Err-Memory.field-0 c.in-Err-Memory.ensures.refused
+pub returns-clause-left : goal.returns-clause-left
+returns-clause-left g c =
+    record {
+      as_many = c.fleet.ensures.same;
+      held = refused_held g.K.Disk.state c.args.disks.now c.fleet.new.disks c.in-Err-Memory.field-0 c.in-Err-Memory.ensures.refused;
+      leaves = fleet_leaves g.K.Disk.state _ _ (set_view c.args.set.now) (λ fields kept answer said. said.says ∙ ap (λ h. permits h kept) said.same) c.args.disks.now c.fleet.new.disks c.fleet.ensures.good;
+    }
 
 pub returns-in_err-answer-in-Ok-clause-memory : goal.returns-in_err-answer-in-Ok-clause-memory
 returns-in_err-answer-in-Ok-clause-memory g c =

@@ -16,17 +16,21 @@ returns-in_ok-refused_script-in-Err-clause-runs g c =
     rw (c.of.ensures.answer, c.of.ensures.fleet)
     (says_no_fleet_script g.K.Disk.state c.args.name.now c.args.text.now (set_view c.args.set.now) c.args.disks.now c.in-Err.fault _ c.in-Err.ensures.refused c.in_ok-refused_script-in-Err.ensures)
 
-pub returns-in_ok-refused_script-in-Err-clause-leaves : goal.returns-in_ok-refused_script-in-Err-clause-leaves
-returns-in_ok-refused_script-in-Err-clause-leaves g c = untouched_fleet g.K.Disk.state g.met.K.Disk.only_now c.a_power_loss_takes_only_work.ensures.holds c.args.disks.now
+pub returns-in_ok-refused_script-in-Err-clause-left : goal.returns-in_ok-refused_script-in-Err-clause-left
+returns-in_ok-refused_script-in-Err-clause-left g c =
+    record {
+      as_many = refl;
+      held = inl (all_read_same g.K.Disk.state c.args.disks.now);
+      leaves = untouched_fleet g.K.Disk.state g.met.K.Disk.only_now c.a_power_loss_takes_only_work.ensures.holds c.args.disks.now;
+    }
 
-pub returns-in_ok-refused_script-in-Err-clause-held : goal.returns-in_ok-refused_script-in-Err-clause-held
-returns-in_ok-refused_script-in-Err-clause-held g c = inl (all_read_same g.K.Disk.state c.args.disks.now)
-
-pub returns-in_err-refused_script-in-Err-clause-leaves : goal.returns-in_err-refused_script-in-Err-clause-leaves
-returns-in_err-refused_script-in-Err-clause-leaves g c = untouched_fleet g.K.Disk.state g.met.K.Disk.only_now c.a_power_loss_takes_only_work.ensures.holds c.args.disks.now
-
-pub returns-in_err-refused_script-in-Err-clause-held : goal.returns-in_err-refused_script-in-Err-clause-held
-returns-in_err-refused_script-in-Err-clause-held g c = inl (all_read_same g.K.Disk.state c.args.disks.now)
+pub returns-in_err-refused_script-in-Err-clause-left : goal.returns-in_err-refused_script-in-Err-clause-left
+returns-in_err-refused_script-in-Err-clause-left g c =
+    record {
+      as_many = refl;
+      held = inl (all_read_same g.K.Disk.state c.args.disks.now);
+      leaves = untouched_fleet g.K.Disk.state g.met.K.Disk.only_now c.a_power_loss_takes_only_work.ensures.holds c.args.disks.now;
+    }
 
 pub returns-in_err-refused_script-in-Err-clause-memory : goal.returns-in_err-refused_script-in-Err-clause-memory
 returns-in_err-refused_script-in-Err-clause-memory g c = anyway c.from_residual.result _ (inl refl)

@@ -14,12 +14,14 @@ returns-in-None g c =
     let words = texts_of c.args.words.now in
     rw (c.of.ensures.answer, c.of.ensures.drive, c.of.ensures.fleet)
     (record {
-      tells = on_unused words c.args.disks.now c.requires.eight _
-          (λ disk at. record { says = refused c.in-None.ensures.none refl refl; host = λ other. refl; disk = λ other none. of_each (λ disk. (g.K.Disk.state disk).stopped ≡ false) c.args.disks.now _ disk at c.requires.running });
-      no_memory = on_unused words c.args.disks.now c.requires.eight _ (λ disk at. tt);
-      disk = on_unused words c.args.disks.now c.requires.eight _ (λ disk at. disk_unused words disk (g.K.Disk.state disk));
-      leaves = on_unused words c.args.disks.now c.requires.eight _
-          (λ disk at. leaves_alone words (g.K.Disk.state disk) (g.K.Disk.state disk) c.in-None.ensures.none (untouched_leaves (g.K.Disk.state disk) (g.met.K.Disk.only_now disk) (c.a_power_loss_takes_only_work.ensures.holds disk)));
+      unit = on_unused words c.args.disks.now c.requires.eight _
+          (λ disk at. record {
+            tells = record { says = refused c.in-None.ensures.none refl refl; host = λ other. refl; disk = λ other none. of_each (λ disk. (g.K.Disk.state disk).stopped ≡ false) c.args.disks.now _ disk at c.requires.running };
+            no_memory = tt;
+            disk = disk_unused words disk (g.K.Disk.state disk);
+            host = host_unused words c.args.host.now (g.H.Host.files c.args.host.now);
+            leaves = leaves_alone words (g.K.Disk.state disk) (g.K.Disk.state disk) c.in-None.ensures.none (untouched_leaves (g.K.Disk.state disk) (g.met.K.Disk.only_now disk) (c.a_power_loss_takes_only_work.ensures.holds disk));
+          });
       fleet = λ count folder script is. absurd (c.in-None.ensures.none (fleet count folder script) is tt);
       others = none_used words c.args.disks.now c.requires.eight;
       host = host_unused words c.args.host.now (g.H.Host.files c.args.host.now);

@@ -19,18 +19,15 @@ returns g c =
     let host = c.args.host.now in
     let host_new = c.replay_fleet.new.host in
     let within : count ≤ length disks = omega (arith, c.requires.eight, c.requires.few) in
-    let many : length new ≡ count = omega (arith, c.replay_fleet.ensures.same, length-take count disks, within) in
+    let many : length new ≡ count = omega (arith, c.replay_fleet.ensures.left.as_many, length-take count disks, within) in
     record {
-      tells = λ single. absurd (single (fleet count folder script) asked tt);
-      no_memory = λ single. absurd (single (fleet count folder script) asked tt);
-      disk = λ single. absurd (single (fleet count folder script) asked tt);
-      leaves = λ single. absurd (single (fleet count folder script) asked tt);
+      unit = λ single. absurd (single (fleet count folder script) asked tt);
       fleet = as_asked words count folder script asked
           (λ n folder script. AnswersFleet g.K.Disk.state (fleet_work_on g.H.Host.files g.H.Host.faults folder script host host_new (take n disks) (take n (new ++ drop count disks))) c.replay_fleet.result)
           (subst (λ (then : List g.row.K.Denot). AnswersFleet g.K.Disk.state (fleet_work_on g.H.Host.files g.H.Host.faults folder script host host_new (take count disks) then) c.replay_fleet.result)
           (sym (taken_first count disks new many within))
           (fleet_answered g.K.Disk.state (fleet_work_on g.H.Host.files g.H.Host.faults folder script host host_new (take count disks) new) c.replay_fleet.result c.replay_fleet.ensures.replays c.replay_fleet.ensures.faults
-          c.replay_fleet.ensures.memory c.replay_fleet.ensures.held c.replay_fleet.ensures.leaves));
+          c.replay_fleet.ensures.memory c.replay_fleet.ensures.left));
       others = record {
         named = omega (arith, c.requires.eight, named_below words);
         as_many = as_many_then count disks new many within;

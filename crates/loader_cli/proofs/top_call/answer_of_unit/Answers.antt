@@ -15,12 +15,9 @@ returns g c =
     let some = c.index-disks-place.result in
     let now = c.answer_on.new.disk in
     record {
-      tells = on_used words disks c.requires.eight c.args.place named some now _ (c.answer_on.ensures.tells words asked);
-      no_memory = on_used words disks c.requires.eight c.args.place named some now _ (c.answer_on.ensures.no_memory words asked);
-      disk = on_used words disks c.requires.eight c.args.place named some now _ (c.answer_on.ensures.disk words asked);
-      leaves = on_used words disks c.requires.eight c.args.place named some now _ (c.answer_on.ensures.leaves words asked);
+      unit = on_used words disks c.requires.eight c.args.place named some now _ (c.answer_on.ensures.answers words asked);
       fleet = λ count folder script is. absurd (never_both words c.args.command.now asked count folder script is);
       others = others_unused words disks c.requires.eight c.args.place named some now (single words c.args.command.now asked);
-      host = c.answer_on.ensures.host words asked;
+      host = (c.answer_on.ensures.answers words asked).host;
       hands_out = hands_of_unit words c.args.command.now asked c.answer_on.result c.answer_on.ensures.no_run c.answer_on.ensures.no_fleet;
     }
