@@ -97,7 +97,17 @@ impl FleetLink {
             (self.new ≡ with_post_at self.old unit (datagram_view datagram)) }
         ensures err { OnErr result (self.new ≡ self.old) }
     {
-        self.mail.post(unit, datagram)
+        self.note_post(unit, &datagram)
+    }
+
+    /// The same of a datagram that is lent, as who posts it keeps it.
+    pub fn note_post(&mut self, unit: u8, datagram: &Datagram) -> Result<(), NoMemory>
+        requires { (1 ≤ unit) × (unit ≤ self.old.units) }
+        ensures ok { OnOk result
+            (self.new ≡ with_post_at self.old unit (datagram_view datagram.now)) }
+        ensures err { OnErr result (self.new ≡ self.old) }
+    {
+        self.mail.note_post(unit, datagram)
     }
 
     /// How many datagrams the sides of this unit posted.

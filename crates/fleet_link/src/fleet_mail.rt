@@ -90,18 +90,18 @@ impl FleetMail {
         }
     }
 
-    /// Takes a datagram that a side posted at this unit, or nothing.
-    pub fn post(&mut self, unit: u8, datagram: Datagram) -> Result<(), NoMemory>
+    /// Takes note of a datagram that a side posts at this unit, or of nothing.
+    pub fn note_post(&mut self, unit: u8, datagram: &Datagram) -> Result<(), NoMemory>
         requires { (1 ≤ unit) × (unit ≤ 8) }
         ensures ok { OnOk result (self.new ≡ record {
-          posted = self.old.posted ++ unit_post unit (datagram_view datagram) ∷ [];
+          posted = self.old.posted ++ unit_post unit (datagram_view datagram.now) ∷ [];
           given = self.old.given;
         }) }
         ensures err { OnErr result (self.new ≡ self.old) }
     {
         self.places.reserve(1)?;
-        let log = self.posted.and(&datagram, &unit);
-        let number = post_at(&mut self.mails, unit as usize - 1, datagram)?;
+        let log = self.posted.and(datagram, &unit);
+        let number = note_post_at(&mut self.mails, unit as usize - 1, datagram)?;
         self.places.push_reserved(Place { unit, number });
         self.posted = log;
         Ok(())
@@ -227,14 +227,14 @@ fn at_unit(unit: u8, happening: Option<Happening>) -> Option<FleetHappening>
     }
 }
 
-/// Takes a datagram at the unit of this index. The number that it has there.
-fn post_at(mails: &mut [Mail], index: usize, datagram: Datagram) -> Result<u64, NoMemory>
+/// Takes note of a datagram at the unit of this index. The number that it has there.
+fn note_post_at(mails: &mut [Mail], index: usize, datagram: &Datagram) -> Result<u64, NoMemory>
     requires { index < length mails.old }
-    ensures ok { IfOk result (λ number. PostsAt index (datagram_view datagram) number mails.old
+    ensures ok { IfOk result (λ number. PostsAt index (datagram_view datagram.now) number mails.old
         mails.new) }
     ensures err { OnErr result (mails.new ≡ mails.old) }
 {
-    mails[index].post(datagram)?;
+    mails[index].note_post(datagram)?;
     Ok(mails[index].posted_count() as u64)
 }
 

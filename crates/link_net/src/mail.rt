@@ -70,10 +70,10 @@ impl Mail {
         }
     }
 
-    /// Takes a datagram, or nothing.
-    pub fn post(&mut self, datagram: Datagram) -> Result<(), NoMemory>
+    /// Takes note of a datagram that a side posts, or of nothing.
+    pub fn note_post(&mut self, datagram: &Datagram) -> Result<(), NoMemory>
         ensures ok { OnOk result (self.new ≡ record {
-          posted = self.old.posted ++ datagram_view datagram ∷ [];
+          posted = self.old.posted ++ datagram_view datagram.now ∷ [];
           given = self.old.given;
         }) }
         ensures err { OnErr result (self.new ≡ self.old) }
@@ -81,7 +81,7 @@ impl Mail {
         self.fates.reserve(1)?;
         self.sides.push(datagram.from_side)?;
         self.fates.push_reserved(Fate::Undelivered);
-        self.posted = self.posted.and(&datagram, &());
+        self.posted = self.posted.and(datagram, &());
         Ok(())
     }
 

@@ -67,7 +67,7 @@ impl Link for ScriptLink {
     ghost faults = { λ _. 0 };
 
     fn post(&mut self, datagram: Datagram) -> Result<(), LinkFault> {
-        match self.mail.post(datagram) {
+        match self.mail.note_post(&datagram) {
             Ok(()) => Ok(()),
             Err(_) => Err(LinkFault::Memory),
         }

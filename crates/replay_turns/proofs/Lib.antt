@@ -1,3 +1,4 @@
+pub mod Newest
 pub mod Recorded
 pub mod Stepping
 pub mod Speaking

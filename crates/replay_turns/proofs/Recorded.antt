@@ -3,7 +3,7 @@ use Rattle.std.proofs.Common.{◌≡◌, ℕ, zero, suc, ◌+◌, ◌<◌, ◌�
 use Rattle.std.specs.Prelude.{◌-◌, ◌==◌, false, slice_get, option_map}
 use Rattle.std.proofs.lemmas.Bool.Decides.{nat_tests}
 use Rattle.std.specs.List.{All}
-use Rattle.std.proofs.lemmas.List.{append-nil, append_assoc, length-append, map-append}
+use Rattle.std.proofs.lemmas.List.{append-nil, append_assoc, length-append, length-map, map-append}
 use Rattle.std.proofs.lemmas.List.Elements.{All-append, All-cons, All-head, All-nil, All-tail, All-weaker}
 use Rattle.std.proofs.lemmas.List.Sums.{fold-append}
 use Rattle.std.proofs.lemmas.Option.{slice_get-map}
@@ -149,7 +149,7 @@ posted_on trace d posts port next begun is small r =
 
 -- ---- a datagram by its number
 
-numbered_from_1 : (posted : List DatagramView) (n : ℕ) → 1 ≤ n → numbered posted n ≡ slice_get posted (n - 1)
+pub numbered_from_1 : (posted : List DatagramView) (n : ℕ) → 1 ≤ n → numbered posted n ≡ slice_get posted (n - 1)
 numbered_from_1 posted n some = let e : (n == 0) ≡ false = grind (arith, nat_tests) in rw e refl
 
 same_found : (x o : Option DatagramView) → Some x ≡ option_map (λ (d : DatagramView). Some d) o → x ≡ o
@@ -161,6 +161,11 @@ same_none None e = refl
 same_none (Some d) e = absurd cc
 
 module _ (trace : List TraceStep) (posts : List ℕ) (port : ℕ) (r : IsRecorded trace posts port) where
+  pub each_found : length posts ≡ length (posted_in (steps_of trace))
+  each_found =
+      sym (length-map posts (λ (at : ℕ). post_of (slice_get trace at)))
+      ∙ (ap length r.found ∙ length-map (posted_in (steps_of trace)) (λ (d : DatagramView). Some d))
+
   found_at : (i : ℕ) → option_map (λ (at : ℕ). post_of (slice_get trace at)) (slice_get posts i) ≡ option_map (λ (d : DatagramView). Some d) (slice_get (posted_in (steps_of trace)) i)
   found_at i =
       sym (slice_get-map (λ (at : ℕ). post_of (slice_get trace at)) posts i)

@@ -32,6 +32,11 @@ abbrev pub HasPlace : List Step → TraceStep → Type 0
 HasPlace steps (lines.Given h) = ⊤
 HasPlace steps line = StepHasBegun steps
 
+-- what was posted in the newest step
+abbrev pub posts_of_last : List Step → List DatagramView
+posts_of_last [] = []
+posts_of_last (s ∷ earlier) = s.posts
+
 -- the steps, with these posts more
 abbrev pub with_posts : List Step → List DatagramView → List Step
 with_posts steps [] = steps

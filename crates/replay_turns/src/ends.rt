@@ -1,19 +1,19 @@
 //! Both ends, and what has happened between them.
-ghost use Rattle.std.specs.Prelude.{◌≡◌, ◌⊎◌, ◌++◌, ◌∷◌, [], IfOk, OnOk};
+ghost use Rattle.std.specs.Prelude.{◌≡◌, ◌⊎◌, ◌≤◌, ◌++◌, ◌∷◌, [], OnOk, length};
 ghost use Rattle.std.specs.List.{AllByRecursion};
 ghost use Rattle.accept_rules.specs.Interlocks.{FollowsAccepts};
 ghost use Rattle.exchange_trace.specs.declared.trace.Side.TheVariants as sides;
-ghost use Rattle.exchange_trace.specs.Happenings.{Booted, datagram_view, happening_view};
+ghost use Rattle.exchange_trace.specs.Happenings.{datagram_view, happening_view};
 ghost use Rattle.exchange_trace.specs.Logs.{event_for};
 ghost use Rattle.exchange_trace.specs.Posts.{posted_in};
+ghost use Rattle.exchange_trace.specs.Steps.{with_given};
 ghost use Rattle.field_grammar.specs.Grammar.{IsBytes};
 ghost use Rattle.accept_rules.specs.Permissions.{Accepts};
 ghost use Rattle.replay_rules.specs.BothEnds.{Setting, TargetStanding};
 ghost use Rattle.replay_rules.specs.Changes.{CarriesBytes, InjectsBytes};
-ghost use Rattle.replay_turns.specs.Ends.{HasStepped, StepsAsSaid};
-ghost use Rattle.replay_turns.specs.Powers.{ArmsBy};
-ghost use Rattle.replay_turns.specs.Recordings.{StepHasBegun, with_posts};
-ghost use Rattle.replay_turns.specs.StepsOnDisks.{AddsInStep, BeginsStep, Reboots};
+ghost use Rattle.replay_turns.specs.Ends.{ActsInStep, HasStepped, StepsAsSaid};
+ghost use Rattle.replay_turns.specs.Recordings.{StepHasBegun, posts_of_last, with_posts};
+ghost use Rattle.replay_turns.specs.StepsOnDisks.{AddsInStep, BeginsStep};
 ghost use Rattle.replay_turns.specs.Turns.{RuleFollows, RunsWhileUp, noted_with, notes_of};
 ghost use Rattle.transfer_end.specs.Calls.{posted, posts_view};
 
@@ -24,7 +24,7 @@ use crate::turn::{Reply, target_turn};
 use accept_rules::{Interlock, Rule};
 use disk_model::Power;
 use exchange_trace::{Datagram, Happening};
-use load_base::{Bytes, NoMemory};
+use load_base::NoMemory;
 use loader_machine::{Loader, Posts};
 use std::alloc::Global;
 use target_machine::Target;
@@ -42,29 +42,29 @@ pub struct Ends<'m, R: Rule> {
 
 impl<'m, R: Rule> Ends<'m, R> {
     /// Both ends take what happens, the target first, since a loss of power is armed whatever else
-    /// may fail. It is recorded with what they post, which at one end at most, and what becomes of
-    /// the target's power. Out of memory the ends aren't used again.
-    pub fn take<K: Power>(&mut self, disk: &mut K, happening: Happening) -> Result<Posts, NoMemory>
+    /// may fail. It is recorded with what they post, which one end at most does, and with what
+    /// becomes of the target's power. Out of memory the ends aren't used again.
+    pub fn apply<K: Power>(&mut self, disk: &mut K, happening: Happening) -> Result<(), NoMemory>
         requires { RunsWhileUp self.old.target (K.state disk.old) }
         // With Ok.
-        ensures stepped { IfOk result (λ posts. HasStepped (happening_view happening)
-            (posts_view posts) self.old.recording self.new.recording self.old.loader
-            self.new.loader self.old.target self.new.target (K.state disk.old)
+        ensures stepped { OnOk result (HasStepped (happening_view happening)
+            (posts_of_last self.new.recording) self.old.recording self.new.recording
+            self.old.loader self.new.loader self.old.target self.new.target (K.state disk.old)
             (K.state disk.new)) }
         ensures said { (set : Setting) (state : TargetStanding)
-            → RuleFollows R.may_say set.accepts self.old.target → IfOk result (λ posts.
-            StepsAsSaid R.may_say set state (happening_view happening) (posts_view posts)
-            self.old.recording self.new.recording self.old.loader self.new.loader
-            self.old.target self.new.target (K.state disk.old) (K.state disk.new)) }
+            → RuleFollows R.may_say set.accepts self.old.target → OnOk result
+            (StepsAsSaid R.may_say set state (happening_view happening)
+            (posts_of_last self.new.recording) self.old.recording self.new.recording
+            self.old.loader self.new.loader self.old.target self.new.target (K.state disk.old)
+            (K.state disk.new)) }
         ensures rule { (accepts : Accepts)
             → FollowsAccepts R.may_say self.old.interlock.now accepts
             → RuleFollows R.may_say accepts self.old.target
             → OnOk result (RuleFollows R.may_say accepts self.new.target) }
         // Whatever it answers.
         ensures interlock { self.new.interlock ≡ self.old.interlock }
-        ensures arms { ArmsBy (happening_view happening) (K.state disk.old) (K.state disk.new) }
-        ensures reboots { happening_view happening ≡ Booted
-            → Reboots (K.state disk.old) (K.state disk.new) }
+        ensures acts { ActsInStep (happening_view happening) (K.state disk.old)
+            (K.state disk.new) }
         ensures injects { InjectsBytes (happening_view happening) }
         ensures adds { (set : Setting) (state : TargetStanding)
             → BeginsStep R.may_say set state self.old.target (K.state disk.old)
@@ -97,13 +97,8 @@ impl<'m, R: Rule> Ends<'m, R> {
         };
         let Reply { posts, note } = reply;
         let posts = one_of(first, posts);
-        match record(self.alloc, &mut self.recording, happening, &posts, note) {
-            Ok(()) => Ok(posts),
-            Err(NoMemory) => {
-                drop(posts);
-                Err(NoMemory)
-            }
-        }
+        posts_carry_bytes(&posts);
+        record(&mut self.recording, happening, posts, note)
     }
 }
 
@@ -123,44 +118,61 @@ fn one_of(first: Posts, second: Posts) -> Posts
 
 /// A step: what happened, what was posted, and what was noted of the target.
 fn record(
-    alloc: Global,
     recording: &mut Recording,
     happening: Happening,
-    posts: &Posts,
+    posts: Posts,
     note: Option<PowerNote>,
 ) -> Result<(), NoMemory>
-    ensures step { OnOk result (recording.new
+    ensures { OnOk result (recording.new
         ≡ record {
           given = happening_view happening;
-          posts = posts_view posts.now;
+          posts = posts_view posts;
           notes = notes_of
               note;
         }
         ∷ recording.old) }
-    ensures carries { OnOk result (AllByRecursion CarriesBytes (posts_view posts.now)) }
 {
-    recording.give(happening)?;
-    record_post(alloc, recording, &posts.first)?;
-    record_post(alloc, recording, &posts.second)?;
+    record_posts(recording, happening, posts)?;
     match note {
         Some(note) => record_note(recording, note),
         None => Ok(()),
     }
 }
 
-fn record_post(
-    alloc: Global,
+/// What happened, and what was posted.
+fn record_posts(
     recording: &mut Recording,
-    datagram: &Option<Datagram>,
+    happening: Happening,
+    posts: Posts,
 ) -> Result<(), NoMemory>
-    requires { StepHasBegun recording.old }
-    ensures posts { OnOk result (recording.new
-        ≡ with_posts recording.old (posted datagram.now)) }
+    ensures posts { OnOk result (recording.new ≡ with_posts
+        (with_given recording.old (happening_view happening)) (posts_view posts)) }
     ensures begun { OnOk result (StepHasBegun recording.new) }
-    ensures carries { OnOk result (AllByRecursion CarriesBytes (posted datagram.now)) }
+{
+    let Posts { first, second } = posts;
+    match recording.record_happening(happening) {
+        Ok(()) => match record_post(recording, first) {
+            Ok(()) => record_post(recording, second),
+            Err(NoMemory) => {
+                // For the proof: dropped by a call, not by scope.
+                drop(second);
+                Err(NoMemory)
+            }
+        },
+        Err(NoMemory) => {
+            drop((first, second));
+            Err(NoMemory)
+        }
+    }
+}
+
+fn record_post(recording: &mut Recording, datagram: Option<Datagram>) -> Result<(), NoMemory>
+    requires { StepHasBegun recording.old }
+    ensures posts { OnOk result (recording.new ≡ with_posts recording.old (posted datagram)) }
+    ensures begun { OnOk result (StepHasBegun recording.new) }
 {
     match datagram {
-        Some(datagram) => recording.post(copy_of(alloc, datagram)?),
+        Some(datagram) => recording.post(datagram),
         None => Ok(()),
     }
 }
@@ -179,28 +191,33 @@ fn record_note(recording: &mut Recording, note: PowerNote) -> Result<(), NoMemor
     }
 }
 
-fn copy_of(alloc: Global, datagram: &Datagram) -> Result<Datagram, NoMemory>
-    ensures copy { IfOk result (λ copy. datagram_view copy ≡ datagram_view datagram.now) }
-    ensures carries { CarriesBytes (datagram_view datagram.now) }
-{
-    let carried = datagram.bytes.as_slice();
-    are_bytes(carried);
-    let mut bytes = Bytes::new(alloc);
-    bytes.extend(carried)?;
-    Ok(Datagram {
-        from_side: datagram.from_side,
-        from: datagram.from,
-        to: datagram.to,
-        bytes,
-    })
-}
-
 /// What is injected is bytes.
 // For the proof: does nothing.
 fn carries_bytes(happening: &Happening)
     ensures { InjectsBytes (happening_view happening.now) }
 {
     if let Happening::Injected(datagram) = happening {
+        are_bytes(datagram.bytes.as_slice());
+    }
+}
+
+/// What is posted is bytes, and two datagrams at most.
+// For the proof: does nothing.
+fn posts_carry_bytes(posts: &Posts)
+    ensures carries { AllByRecursion CarriesBytes (posts_view posts.now) }
+    ensures few { length (posts_view posts.now) ≤ 2 }
+{
+    datagram_carries_bytes(&posts.first);
+    datagram_carries_bytes(&posts.second);
+}
+
+/// A datagram carries bytes.
+// For the proof: does nothing.
+fn datagram_carries_bytes(datagram: &Option<Datagram>)
+    ensures carries { AllByRecursion CarriesBytes (posted datagram.now) }
+    ensures few { length (posted datagram.now) ≤ 1 }
+{
+    if let Some(datagram) = datagram {
         are_bytes(datagram.bytes.as_slice());
     }
 }

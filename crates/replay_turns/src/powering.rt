@@ -1,5 +1,5 @@
 //! What becomes of the target's power.
-ghost use Rattle.std.specs.Prelude.{◌≡◌, ℕ, [], None, Option, Some, is_some};
+ghost use Rattle.std.specs.Prelude.{◌≡◌, ℕ, [], None, Option, Some};
 ghost use Rattle.std.specs.Prelude.{IfOk, Ok, OnErr, OnOk};
 ghost use Rattle.accept_rules.specs.Interlocks.{FollowsAccepts};
 ghost use Rattle.accept_rules.specs.Permissions.{Accepts};
@@ -8,11 +8,11 @@ ghost use Rattle.disk_layout.specs.Holds.{StandingView};
 ghost use Rattle.disk_model.specs.State.{IsSettled, KeepsPower, OnlyReads};
 ghost use Rattle.exchange_trace.specs.Happenings.{Power_cut};
 ghost use Rattle.replay_rules.specs.BothEnds.{Is_down, Setting, TargetStanding, noted};
-ghost use Rattle.replay_rules.specs.Due.{IsBooted, MayBeNoted};
-ghost use Rattle.replay_turns.specs.Targets.{ComesOutOfBoot, TargetLives, TargetTurns};
+ghost use Rattle.replay_turns.specs.Ends.{BootsTarget, TurnsTarget};
+ghost use Rattle.replay_turns.specs.Targets.{TargetLives, TargetTurns};
 ghost use Rattle.replay_turns.specs.StepsOnDisks.{BeginsStep, HasBooted, HoldsRun, Reboots};
 ghost use Rattle.replay_turns.specs.StepsOnDisks.{StepsOn};
-ghost use Rattle.replay_turns.specs.Powers.{ArmsBy, RoseBy, stops_in, stops_noted};
+ghost use Rattle.replay_turns.specs.Powers.{ArmsBy};
 ghost use Rattle.replay_turns.specs.Turns.{RuleFollows, RunsOut, RunsWhileUp, notes_of};
 ghost use Rattle.replay_turns.specs.Turns.{target_kept};
 ghost use Rattle.load_base.specs.declared.list.NoMemory.{NoMemory as OutOfMemory};
@@ -49,13 +49,10 @@ pub(crate) fn cut_power<K: Power, R: Rule>(
         (target_kept slot.old) (target_kept slot.new) [] (notes_of result) }
     ensures lives { (accepts : Accepts) → TargetLives accepts None
         (target_kept slot.old) (target_kept slot.new) [] (notes_of result) }
-    ensures noted { (first_port : ℕ) → MayBeNoted (is_some slot.old) first_port
-        (Power_cut calls pick) (notes_of result) }
+    ensures noted { (first_port : ℕ) → TurnsTarget (Power_cut calls pick) first_port []
+        (notes_of result) slot.old slot.new (K.state disk.old) (K.state disk.new) }
     ensures rule { (accepts : Accepts) → RuleFollows R.may_say accepts slot.old
         → RuleFollows R.may_say accepts slot.new }
-    ensures running { RunsWhileUp slot.new (K.state disk.new) }
-    ensures stops { RoseBy (stops_in (Power_cut calls pick) (notes_of result))
-        (K.state disk.old).faults (K.state disk.new).faults }
     ensures arms { ArmsBy (Power_cut calls pick) (K.state disk.old) (K.state disk.new) }
     ensures steps { (set : Setting) (state : TargetStanding)
         → BeginsStep R.may_say set state slot.old (K.state disk.old)
@@ -81,14 +78,10 @@ pub(crate) fn boot_again<'i, K: Power, R: Rule>(
     disk: &mut K,
     first_port: u32,
 ) -> Result<PowerNote, NoMemory>
-    ensures noted { IfOk result (λ note. IsBooted first_port (notes_of (Some note))) }
-    ensures boots { IfOk result (λ note. ComesOutOfBoot (target_kept slot.new)
-        (notes_of (Some note))) }
+    ensures boots { IfOk result (λ note. BootsTarget first_port (notes_of (Some note)) slot.new
+        (K.state disk.old) (K.state disk.new)) }
     ensures rule { (accepts : Accepts) → FollowsAccepts R.may_say interlock.now accepts
         → OnOk result (RuleFollows R.may_say accepts slot.new) }
-    ensures running { OnOk result (RunsWhileUp slot.new (K.state disk.new)) }
-    ensures stops { IfOk result (λ note. RoseBy (stops_noted (notes_of (Some note)))
-        (K.state disk.old).faults (K.state disk.new).faults) }
     ensures power { KeepsPower (K.state disk.old) (K.state disk.new) }
     ensures memory { OnErr result (RunsOut (K.state disk.old) (K.state disk.new)) }
     ensures reboots { Reboots (K.state disk.old) (K.state disk.new) }
@@ -115,14 +108,10 @@ fn come_up<'i, K: Power, R: Rule>(
 ) -> Result<PowerNote, NoMemory>
     requires down { slot.old ≡ None }
     requires running { IsRunning (K.state disk.old) }
-    ensures noted { IfOk result (λ note. IsBooted first_port (notes_of (Some note))) }
-    ensures boots { IfOk result (λ note. ComesOutOfBoot (target_kept slot.new)
-        (notes_of (Some note))) }
+    ensures boots { IfOk result (λ note. BootsTarget first_port (notes_of (Some note)) slot.new
+        (K.state disk.old) (K.state disk.new)) }
     ensures rule { (accepts : Accepts) → FollowsAccepts R.may_say interlock.now accepts
         → OnOk result (RuleFollows R.may_say accepts slot.new) }
-    ensures running { OnOk result (RunsWhileUp slot.new (K.state disk.new)) }
-    ensures stops { IfOk result (λ note. RoseBy (stops_noted (notes_of (Some note)))
-        (K.state disk.old).faults (K.state disk.new).faults) }
     ensures power { KeepsPower (K.state disk.old) (K.state disk.new) }
     ensures memory { OnErr result (RunsOut (K.state disk.old) (K.state disk.new)) }
     ensures reads { OnlyReads (K.state disk.old) (K.state disk.new) }

@@ -1,6 +1,6 @@
 //! The trace of a run while it goes on.
-ghost use Rattle.std.specs.Prelude.{◌≡◌, ◌-◌, ◌≤◌, ◌∷◌, [], None, Some, option_map, slice_get};
-ghost use Rattle.std.specs.Prelude.{OnOk};
+ghost use Rattle.std.specs.Prelude.{◌≡◌, ◌-◌, ◌≤◌, ◌∷◌, [], None, Some, length, option_map};
+ghost use Rattle.std.specs.Prelude.{OnOk, slice_get};
 ghost use Rattle.exchange_trace.specs.Happenings.{datagram_view, happening_view};
 ghost use Rattle.exchange_trace.specs.Posts.{first_port_after, numbered, port_above, posted_in};
 ghost use Rattle.exchange_trace.specs.Steps.{Boot_refused, Came_up, Went_down, steps_of};
@@ -61,7 +61,7 @@ impl Recording {
     }
 
     /// Something happens.
-    pub fn give(&mut self, happening: Happening) -> Result<(), NoMemory>
+    pub fn record_happening(&mut self, happening: Happening) -> Result<(), NoMemory>
         ensures given { OnOk result (self.new ≡ with_given self.old (happening_view happening)) }
         ensures begun { OnOk result (StepHasBegun self.new) }
     {
@@ -123,6 +123,14 @@ impl Recording {
             Some(index) => posted_at(self.trace.as_slice(), index),
             None => None,
         }
+    }
+
+    /// How many datagrams were posted. The newest has this number.
+    #[tactic(auto, using(crate::proofs::Recorded::each_found))]
+    pub fn posted_count(&self) -> u64
+        ensures { result ≡ length (posted_in self.now) }
+    {
+        self.posts.as_slice().len() as u64
     }
 
     /// The first port of a target that boots now.

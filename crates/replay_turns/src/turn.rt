@@ -1,17 +1,16 @@
 //! What a happening does to the target.
-ghost use Rattle.std.specs.Prelude.{◌≡◌, ◌⊎◌, [], ℕ, is_some, IfOk, None, OnErr, OnOk};
+ghost use Rattle.std.specs.Prelude.{◌≡◌, ◌⊎◌, [], IfOk, None, OnErr, OnOk};
 ghost use Rattle.accept_rules.specs.Interlocks.{FollowsAccepts};
 ghost use Rattle.accept_rules.specs.Permissions.{Accepts};
 ghost use Rattle.bank_store.specs.DiskWrites.{IsRunning};
 ghost use Rattle.exchange_trace.specs.declared.trace.Side.TheVariants as sides;
-ghost use Rattle.exchange_trace.specs.Happenings.{Booted, happening_view};
+ghost use Rattle.exchange_trace.specs.Happenings.{happening_view};
 ghost use Rattle.exchange_trace.specs.Logs.{Gets, event_for};
 ghost use Rattle.exchange_trace.specs.Posts.{first_port_after, posted_in};
 ghost use Rattle.load_intake.specs.Stores.{Writes};
 ghost use Rattle.replay_rules.specs.BothEnds.{Setting, TargetStanding};
-ghost use Rattle.replay_rules.specs.Due.{LeavesPower, MayBeNoted};
-ghost use Rattle.replay_turns.specs.Powers.{ArmsBy, RoseBy, stops_in};
-ghost use Rattle.replay_turns.specs.StepsOnDisks.{BeginsStep, HasContents, Reboots, StepsOn};
+ghost use Rattle.replay_turns.specs.Ends.{ActsInStep, CanReach, TurnsTarget};
+ghost use Rattle.replay_turns.specs.StepsOnDisks.{BeginsStep, HasContents, StepsOn};
 ghost use Rattle.replay_turns.specs.StepsOnDisks.{contents_then};
 ghost use Rattle.replay_turns.specs.Targets.{IsNoBoot, TargetLives, TargetSpeaks, TargetTurns};
 ghost use Rattle.replay_turns.specs.Turns.{RuleFollows, RunsOut, RunsWhileUp, TargetTakes};
@@ -62,22 +61,16 @@ pub(crate) fn target_turn<'i, K: Power, R: Rule>(
         (event_for sides.Target (posted_in recording.now) (happening_view happening.now))
         (target_kept slot.old) (target_kept slot.new) (posts_view reply.posts)
         (notes_of reply.note)) }
-    ensures silent { IfOk result (λ reply. ¬ TargetSpeaks (happening_view happening.now)
-        → posts_view reply.posts ≡ []) }
-    ensures noted { IfOk result (λ reply. MayBeNoted (is_some slot.old)
-        (first_port_after recording.now) (happening_view happening.now) (notes_of reply.note)) }
+    ensures noted { IfOk result (λ reply. TurnsTarget (happening_view happening.now)
+        (first_port_after recording.now) (posts_view reply.posts) (notes_of reply.note) slot.old
+        slot.new (K.state disk.old) (K.state disk.new)) }
     ensures rule { (accepts : Accepts) → FollowsAccepts R.may_say interlock.now accepts
         → RuleFollows R.may_say accepts slot.old
         → OnOk result (RuleFollows R.may_say accepts slot.new) }
-    ensures running { OnOk result (RunsWhileUp slot.new (K.state disk.new)) }
-    ensures stops { IfOk result (λ reply. RoseBy
-        (stops_in (happening_view happening.now) (notes_of reply.note))
-        (K.state disk.old).faults (K.state disk.new).faults) }
     // Whatever it answers.
     ensures memory { OnErr result (RunsOut (K.state disk.old) (K.state disk.new)) }
-    ensures reboots { happening_view happening.now ≡ Booted
-        → Reboots (K.state disk.old) (K.state disk.new) }
-    ensures arms { ArmsBy (happening_view happening.now) (K.state disk.old) (K.state disk.new) }
+    ensures acts { ActsInStep (happening_view happening.now) (K.state disk.old)
+        (K.state disk.new) }
     ensures steps { (set : Setting) (state : TargetStanding)
         → BeginsStep R.may_say set state slot.old (K.state disk.old)
         → StepsOn set (event_for sides.Target (posted_in recording.now)
@@ -116,8 +109,8 @@ fn reach_target<K: Disk, R: Rule>(
     recording: &Recording,
     happening: &Happening,
 ) -> Result<Reply, NoMemory>
-    requires running { RunsWhileUp slot.old (K.state disk.old) }
-    requires power { LeavesPower (happening_view happening.now) }
+    requires { CanReach (happening_view happening.now) slot.old (K.state disk.old) }
+    // With Ok.
     ensures turns { (set : Setting) (state : TargetStanding)
         → RuleFollows R.may_say set.accepts slot.old → IfOk result (λ reply. TargetTurns set
         (event_for sides.Target (posted_in recording.now) (happening_view happening.now)) state
@@ -128,18 +121,15 @@ fn reach_target<K: Disk, R: Rule>(
         (event_for sides.Target (posted_in recording.now) (happening_view happening.now))
         (target_kept slot.old) (target_kept slot.new) (posts_view reply.posts)
         (notes_of reply.note)) }
-    ensures silent { IfOk result (λ reply. ¬ TargetSpeaks (happening_view happening.now)
-        → posts_view reply.posts ≡ []) }
-    ensures noted { (first_port : ℕ) → IfOk result (λ reply. MayBeNoted (is_some slot.old)
-        first_port (happening_view happening.now) (notes_of reply.note)) }
+    ensures noted { IfOk result (λ reply. TurnsTarget (happening_view happening.now)
+        (first_port_after recording.now) (posts_view reply.posts) (notes_of reply.note) slot.old
+        slot.new (K.state disk.old) (K.state disk.new)) }
     ensures rule { (accepts : Accepts) → RuleFollows R.may_say accepts slot.old
         → OnOk result (RuleFollows R.may_say accepts slot.new) }
-    ensures running { OnOk result (RunsWhileUp slot.new (K.state disk.new)) }
-    ensures stops { IfOk result (λ reply. RoseBy
-        (stops_in (happening_view happening.now) (notes_of reply.note))
-        (K.state disk.old).faults (K.state disk.new).faults) }
+    // Whatever it answers.
     ensures memory { OnErr result (RunsOut (K.state disk.old) (K.state disk.new)) }
-    ensures arms { ArmsBy (happening_view happening.now) (K.state disk.old) (K.state disk.new) }
+    ensures acts { ActsInStep (happening_view happening.now) (K.state disk.old)
+        (K.state disk.new) }
     ensures steps { (set : Setting) (state : TargetStanding)
         → BeginsStep R.may_say set state slot.old (K.state disk.old)
         → StepsOn set (event_for sides.Target (posted_in recording.now)

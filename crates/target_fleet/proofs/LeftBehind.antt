@@ -29,7 +29,7 @@ use Rattle.target_fleet.specs.Clocks.{own_clocks}
 use Rattle.target_fleet.specs.Leaves.{LeavesOwn}
 use Rattle.target_fleet.specs.PartPosts.{IsPostedInPartAt}
 use Rattle.target_fleet.specs.Runs.{HoldsOwn, RunsInFleet, own_link}
-use Rattle.target_fleet.specs.Steps.{ActsOnDisk}
+use Rattle.upload_replay.specs.DriverSteps.{ActsOnDisk}
 use Rattle.target_fleet.proofs.OwnLinks.{posts_own}
 
 -- a run that memory ends isn't one that its link ends
@@ -101,7 +101,7 @@ module _ {R K : Type 0} (state : K → DiskState) (may_say : R → LoadHeader �
   -- where something happened that came to no step
   pub leaves_in_step : (h : HappeningView) (link_then : FleetLinkState) (then : K) → IsLinked false (own_link unit began) (own_link unit link) d.steps
       → posts_of_unit unit link_then.posted ≡ posts_of_unit unit link.posted → happenings_of_unit unit link_then.given ≡ h ∷ happenings_of_unit unit link.given
-      → ActsOnDisk state may_say h d new then → LeavesOwn state may_say rule shown unit began link_then old then
+      → ActsOnDisk may_say h d (state new) (state then) → LeavesOwn state may_say rule shown unit began link_then old then
   leaves_in_step h link_then then linked posted happened acts = record {
     arms = arms_on (happenings_of_unit unit began.given) (happenings_of_unit unit link.given) (happenings_of_unit unit link_then.given) (state old) (state new) (state then)
         (arms_now (happenings_of_unit unit link.given) linked.given) (arms_one (happenings_of_unit unit link.given) (happenings_of_unit unit link_then.given) h (state new) (state then) happened acts.arms);

@@ -22,3 +22,4 @@ pub mod ToldInUnits
 pub mod TurnsLeave
 pub mod SteppedSoFar
 pub mod FinishTurns
+pub mod NewPosts

@@ -18,7 +18,7 @@ use Rattle.upload_replay.specs.Moments.{AreClocks, Clocks}
 use Rattle.upload_replay.proofs.Counted.{arms_on, arms_one}
 use Rattle.target_fleet.specs.Clocks.{GoesOnIn, own_clocks}
 use Rattle.target_fleet.specs.Runs.{HoldsOwn, RunsInFleet}
-use Rattle.target_fleet.specs.Steps.{TakesStep}
+use Rattle.upload_replay.specs.DriverSteps.{TakesStep}
 
 -- ---- whose step it is
 
@@ -87,7 +87,7 @@ module _ {R K : Type 0} (state : K → DiskState) (may_say : R → LoadHeader �
 
   -- ---- a step of its own
 
-  module _ (asked : Bool) (h : HappeningView) (posts : List DatagramView) (before after : DriverState R) (old mid new : K) (takes : TakesStep state may_say h posts before after mid new) where
+  module _ (asked : Bool) (h : HappeningView) (posts : List DatagramView) (before after : DriverState R) (old mid new : K) (takes : TakesStep may_say h posts before after (state mid) (state new)) where
     own_step : Step
     own_step = takes.stepped.step
 

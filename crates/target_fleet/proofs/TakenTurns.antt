@@ -82,7 +82,7 @@ module _ {R K : Type 0} (state : K → DiskState) (may_say : R → LoadHeader �
     (only : (k : K) (t u : ℕ) (image : Image) → (state k).clock ≤ t → (state k).between t u image → (state k).now image)
     (began link given : FleetLinkState) (fleet : FleetState R) (first disks : List K) (on : FleetGoesOn state may_say rule shown false began link fleet first disks) (ready : IsFleetReady state link fleet disks)
     (waits : List Waits) (may_ask : Bool) (link_then : FleetLinkState) (disks_then : List K) where
-  pub unit_leaves : (unit : ℕ) (h : HappeningView) → GivesInFleet link given waits may_ask (At_unit unit h) → LeavesStep state may_say unit h fleet given link_then disks disks_then
+  pub unit_leaves : (unit : ℕ) (h : HappeningView) → GivesInFleet link given waits may_ask (At_unit unit h) → LeavesStep state may_say unit h fleet.drivers given link_then disks disks_then
       → AllLeave state may_say rule shown began link_then first disks_then
   unit_leaves unit h gives left =
       all_leave_step state may_say rule shown wider splits only began link fleet first disks on ready given false unit gives.unit.0 h (given_comes unit h link given waits may_ask gives) link_then disks_then left

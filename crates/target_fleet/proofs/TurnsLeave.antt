@@ -26,7 +26,8 @@ use Rattle.target_fleet.specs.Leaves.{AllLeave, LeavesOwn}
 use Rattle.target_fleet.specs.Merges.{AreUnits}
 use Rattle.target_fleet.specs.PartPosts.{IsPostedInPartAt}
 use Rattle.target_fleet.specs.Runs.{FleetGoesOn, FleetState, IsFleetReady, RunsInFleet, own_link, with_posts_at}
-use Rattle.target_fleet.specs.Steps.{ActsAt, CanStep, StepsAt}
+use Rattle.upload_replay.specs.DriverSteps.{CanStep}
+use Rattle.target_fleet.specs.Steps.{ActsAt, StepsAt}
 use Rattle.target_fleet.specs.AskedTurns.{LeavesStep}
 use Rattle.target_fleet.proofs.FirstBoots.{there_is}
 use Rattle.target_fleet.proofs.FleetTurns.{ComesAt, acts_armed}
@@ -209,7 +210,7 @@ module _ {R K : Type 0} (state : K → DiskState) (may_say : R → LoadHeader �
 
   -- whatever a step left
   pub all_leave_step : (given : FleetLinkState) (asked : Bool) (unit : ℕ) (above : 1 ≤ unit) (h : HappeningView) (comes : ComesAt unit h link given) (link_then : FleetLinkState) (disks_then : List K)
-      → LeavesStep state may_say unit h fleet given link_then disks disks_then → AllLeave state may_say rule shown began link_then first disks_then
+      → LeavesStep state may_say unit h fleet.drivers given link_then disks disks_then → AllLeave state may_say rule shown began link_then first disks_then
   all_leave_step given asked unit above h comes link_then disks_then (inl (same, acts)) =
       subst (λ (l : FleetLinkState). AllLeave state may_say rule shown began l first disks_then) (sym same) (all_leave_in_step given asked unit above h comes disks_then acts)
   all_leave_step given asked unit above h comes link_then disks_then (inr part) =

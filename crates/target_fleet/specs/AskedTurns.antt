@@ -59,7 +59,7 @@ pub record StepsFleet {R K : Type 0} (state : K → DiskState) (may_say : R → 
   pub running : after.running ≡ before.running
   pub ended : after.ended ≡ before.ended
 
--- Not all was posted of the unit's step.
+-- The unit stepped, and of what it posted the first datagrams were posted to the link, or all.
 pub record PostsInPart {R K : Type 0} (state : K → DiskState) (may_say : R → LoadHeader → List KeptLoad → Bool → Type 0) (unit : ℕ) (h : HappeningView)
     (drivers : List (DriverState R)) (link link_then : FleetLinkState) (disks disks_then : List K) : Type 0 where
   pub posts : List DatagramView
@@ -68,12 +68,12 @@ pub record PostsInPart {R K : Type 0} (state : K → DiskState) (may_say : R →
   pub acts : ActsAt state may_say (unit - 1) h drivers disks disks_then
   pub part : IsPostedInPartAt unit posts link link_then
 
--- Where memory ran out, the unit was to step, and acted on its disk alone; or it stepped, and not all was posted.
+-- Where memory ran out, the unit was to step, and acted on its disk alone; or it stepped, and not all that came of it was posted or noted.
 abbrev pub LeavesStep : {R K : Type 0} → (state : K → DiskState) → (may_say : R → LoadHeader → List KeptLoad → Bool → Type 0) → (unit : ℕ) → HappeningView
-    → (before : FleetState R) → (link link_then : FleetLinkState) → (disks disks_then : List K) → Type 0
-LeavesStep state may_say unit h before link link_then disks disks_then =
-    ((link_then ≡ link) × ActsAt state may_say (unit - 1) h before.drivers disks disks_then)
-    ⊎ PostsInPart state may_say unit h before.drivers link link_then disks disks_then
+    → (drivers : List (DriverState R)) → (link link_then : FleetLinkState) → (disks disks_then : List K) → Type 0
+LeavesStep state may_say unit h drivers link link_then disks disks_then =
+    ((link_then ≡ link) × ActsAt state may_say (unit - 1) h drivers disks disks_then)
+    ⊎ PostsInPart state may_say unit h drivers link link_then disks disks_then
 
 -- The upload started at the unit of this number, and the link was told of it and posted what the unit posted. One more was asked.
 pub record AsksUnit {R K : Type 0} (state : K → DiskState) (may_say : R → LoadHeader → List KeptLoad → Bool → Type 0) (unit : ℕ) (h : HappeningView)
@@ -90,4 +90,4 @@ pub record AsksUnit {R K : Type 0} (state : K → DiskState) (may_say : R → Lo
 abbrev pub LeavesAsked : {R K : Type 0} → (state : K → DiskState) → (may_say : R → LoadHeader → List KeptLoad → Bool → Type 0) → (unit : ℕ) → HappeningView
     → (before : FleetState R) → (link link_then : FleetLinkState) → (disks disks_then : List K) → Type 0
 LeavesAsked state may_say unit h before link link_then disks disks_then =
-    ((link_then ≡ link) × (disks_then ≡ disks)) ⊎ LeavesStep state may_say unit h before (with_start_at link unit h) link_then disks disks_then
+    ((link_then ≡ link) × (disks_then ≡ disks)) ⊎ LeavesStep state may_say unit h before.drivers (with_start_at link unit h) link_then disks disks_then

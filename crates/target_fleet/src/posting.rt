@@ -1,41 +1,37 @@
 //! Hands what a unit's ends post to the fleet's link.
-ghost use Rattle.std.specs.Prelude.{◌≡◌, ◌≤◌, OnErr, OnOk};
+ghost use Rattle.std.specs.Prelude.{◌≡◌, ◌≤◌, OnErr, OnOk, drop, length};
+ghost use Rattle.exchange_trace.specs.Posts.{posted_in};
 ghost use Rattle.target_fleet.specs.PartPosts.{IsPostedInPartAt};
 ghost use Rattle.target_fleet.specs.Runs.{CountsPostsAt, with_posts_at};
-ghost use Rattle.transfer_end.specs.Calls.{posted, posts_view};
 
-use exchange_trace::Datagram;
+use accept_rules::Rule;
 use fleet_link::{FleetLink, MOST_UNITS};
 use load_base::NoMemory;
-use upload_replay::Posts;
+use upload_replay::Driver;
 
-/// Both datagrams, as far as there are any.
-pub(crate) fn post_all(link: &mut FleetLink, unit: u8, posts: Posts) -> Result<(), NoMemory>
-    requires { (1 ≤ unit) × (unit ≤ link.old.units) }
-    ensures posts { OnOk result (link.new ≡ with_posts_at link.old unit (posts_view posts)) }
-    ensures in_part { OnErr result
-        (IsPostedInPartAt unit (posts_view posts) link.old link.new) }
+/// What a unit's ends posted after so many datagrams.
+pub(crate) fn post_new<R: Rule>(
+    link: &mut FleetLink,
+    unit: u8,
+    driver: &Driver<'_, R>,
+    count: u64,
+) -> Result<(), NoMemory>
+    requires unit { (1 ≤ unit) × (unit ≤ link.old.units) }
+    requires within { count ≤ length (posted_in driver.now.steps) }
+    ensures posts { OnOk result (link.new ≡ with_posts_at link.old unit
+        (drop count (posted_in driver.now.steps))) }
+    ensures in_part { OnErr result (IsPostedInPartAt unit
+        (drop count (posted_in driver.now.steps)) link.old link.new) }
 {
-    let Posts { first, second } = posts;
-    match post(link, unit, first) {
-        Ok(()) => post(link, unit, second),
-        Err(NoMemory) => {
-            // For the proof: dropped by a call, not by scope.
-            drop(second);
-            Err(NoMemory)
+    let total = driver.posted_count();
+    'posts: for number in count..total {
+        match driver.posted(number + 1) {
+            Some(datagram) => link.note_post(unit, datagram)?,
+            // Each number up to the count is one of a datagram.
+            None => unreachable!(),
         }
     }
-}
-
-fn post(link: &mut FleetLink, unit: u8, datagram: Option<Datagram>) -> Result<(), NoMemory>
-    requires { (1 ≤ unit) × (unit ≤ link.old.units) }
-    ensures posts { OnOk result (link.new ≡ with_posts_at link.old unit (posted datagram)) }
-    ensures same { OnErr result (link.new ≡ link.old) }
-{
-    match datagram {
-        Some(datagram) => link.post(unit, datagram),
-        None => Ok(()),
-    }
+    Ok(())
 }
 
 /// How many datagrams were posted at each unit, from unit 1 on; behind the last unit, none.

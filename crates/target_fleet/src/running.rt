@@ -11,14 +11,13 @@ ghost use Rattle.target_fleet.specs.AskedTurns.{LeavesAsked, LeavesStep, StepsFl
 ghost use Rattle.target_fleet.specs.AskedTurns.{batch_begun, upload_of};
 ghost use Rattle.target_fleet.specs.Leaves.{AllLeave};
 ghost use Rattle.target_fleet.specs.Runs.{FleetGoesOn, IsFleetReady};
-ghost use Rattle.target_fleet.specs.Steps.{CanStep};
 ghost use Rattle.upload_replay.specs.Drivers.{DriverState};
+ghost use Rattle.upload_replay.specs.DriverSteps.{CanStep};
 
 use crate::asking::{Asked, next_upload, start_of};
 use crate::batches::FleetBatches;
-use crate::posting::post_all;
 use crate::stepped::SteppingOrder;
-use crate::stepping::step_at;
+use crate::stepping::step_and_post;
 use crate::waiting::waits_of;
 use accept_rules::Rule;
 use batch_lists::BatchTarget;
@@ -253,7 +252,7 @@ fn session_count<R: Rule>(driver: &Driver<'_, R>) -> usize
     driver.sessions().len()
 }
 
-/// What happens at a unit comes to both its ends, and what they post goes to the link.
+/// The unit steps, and it is noted that this step was its.
 fn step_unit<K: Power, R: Rule>(
     link: &mut FleetLink,
     disks: &mut [K],
@@ -271,18 +270,10 @@ fn step_unit<K: Power, R: Rule>(
     ensures steps { OnOk result (StepsFleet K.state R.may_say asked unit
         (happening_view happening) units.old units.new link.old link.new disks.old
         disks.new) }
-    ensures left { OnErr result (LeavesStep K.state R.may_say unit
-        (happening_view happening) units.old link.old link.new disks.old disks.new) }
+    ensures left { OnErr result (LeavesStep K.state R.may_say unit (happening_view happening)
+        units.old.drivers link.old link.new disks.old disks.new) }
     ensures same { length disks.new ≡ length disks.old }
 {
-    let index = unit as usize - 1;
-    let posts = step_at(&mut units.drivers, disks, index, happening)?;
-    match units.order.push_unit(unit, asked) {
-        Ok(()) => post_all(link, unit, posts),
-        Err(_) => {
-            // For the proof: dropped by a call, not by scope.
-            drop(posts);
-            Err(NoMemory)
-        }
-    }
+    step_and_post(link, &mut units.drivers, disks, unit, happening)?;
+    units.order.push_unit(unit, asked)
 }

@@ -8,6 +8,7 @@ pub mod Living
 pub mod NoOlder
 pub mod Posted
 pub mod Resting
+pub mod Stepped
 pub mod Throughout
 pub mod Turning
 pub mod OrderLemmas

@@ -1,5 +1,5 @@
 -- A step keeps what holds of a driver, and a turn what holds of a run.
-use Rattle.std.proofs.Common.{◌≡◌, Result, Ok, Err, IfOk, true, false, Bool, cond, List, [], ◌∷◌, ◌++◌, Option, Some, None, refl, sym, ap, subst, ◌∙◌}
+use Rattle.std.proofs.Common.{◌≡◌, Result, Ok, Err, IfOk, OnOk, true, false, Bool, cond, List, [], ◌∷◌, ◌++◌, Option, Some, None, refl, sym, ap, subst, ◌∙◌}
 use Rattle.std.specs.Prelude.{is_some}
 use Rattle.std.proofs.lemmas.List.{append-nil}
 use Rattle.disk_model.specs.State.{DiskState}
@@ -169,6 +169,7 @@ module _ {R : Type 0} (before after : DriverState R) (old new : DiskState) (h : 
         recorded = moved.recorded;
         given = refl;
         posted = refl;
+        few = moved.few;
         rule = rule;
         identity = identity;
         media = loader_set;
@@ -200,6 +201,11 @@ pub set_stays : {R : Type 0} (h : HappeningView) (posts : List DatagramView) (st
 set_stays h posts steps steps_then loader loader_then target target_then old new moved = same_media (event_for sides.Loader (posted_in steps) h) loader loader_then moved.loader_posts moved.takes
 
 -- two things that hold with Ok
+-- what follows from all that is promised with Ok
+pub with_ok : {T E Q : Type 0} (result : Result T E) → (((P : Type 0) → OnOk result P → P) → Q) → OnOk result Q
+with_ok (Ok x) follows = follows (λ P is. is)
+with_ok (Err e) follows = tt
+
 pub both_ok : {T E : Type 0} (result : Result T E) (P Q : T → Type 0) → IfOk result P → IfOk result Q → IfOk result (λ x. P x × Q x)
 both_ok (Ok x) P Q one other = (one, other)
 both_ok (Err e) P Q one other = tt

@@ -1,5 +1,5 @@
 -- What contracts see of a driver, and what holds of it as it goes on (docs/EXCHANGE.md, "Runs").
-use Rattle.std.specs.Prelude.{◌≡◌, ℕ, List, [], ◌∷◌, ◌++◌, Bool, true, false, Option, Some}
+use Rattle.std.specs.Prelude.{◌≡◌, ℕ, ◌≤◌, List, [], ◌∷◌, ◌++◌, Bool, true, false, length, Option, Some}
 use Rattle.std.specs.List.{AllByRecursion}
 use Rattle.accept_rules.specs.Interlocks.{FollowsAccepts}
 use Rattle.disk_layout.specs.declared.identity.Identity.{Identity}
@@ -64,13 +64,14 @@ pub record HoldsUnit {R : Type 0} (set : Setting) (since : ℕ) (clocks : List �
 
 -- ---- one step
 
--- It has one step more, in which this happened and this was posted; it stands on what it stood on, and goes on; its disk runs
+-- It has one step more, in which this happened and this was posted, two datagrams at most; it stands on what it stood on, and goes on; its disk runs
 -- while its target is up, and counted a fault where the step notes that it stopped.
 pub record StepsUnit {R : Type 0} (h : HappeningView) (posts : List DatagramView) (before after : DriverState R) (old new : DiskState) : Type 0 where
   pub step : Step
   pub recorded : after.steps ≡ step ∷ before.steps
   pub given : step.given ≡ h
   pub posted : step.posts ≡ posts
+  pub few : length posts ≤ 2
   pub rule : after.rule ≡ before.rule
   pub identity : after.identity ≡ before.identity
   pub media : after.loader.set ≡ before.loader.set

@@ -1,5 +1,6 @@
 pub mod Armings
 pub mod Drivers
+pub mod DriverSteps
 pub mod Drives
 pub mod Endings
 pub mod Faults

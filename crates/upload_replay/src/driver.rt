@@ -1,6 +1,6 @@
 //! A loader and the target of one disk, happening by happening.
-ghost use Rattle.std.specs.Prelude.{◌≡◌, ◌∷◌, [], ℕ, IfErr, IfOk, Some, map, option_map};
-ghost use Rattle.std.specs.Prelude.{OnOk, is_some, false, true};
+ghost use Rattle.std.specs.Prelude.{◌≡◌, ◌+◌, ◌≤◌, ◌∷◌, [], ℕ, IfErr, IfOk, Some, drop, length};
+ghost use Rattle.std.specs.Prelude.{OnOk, false, is_some, map, option_map, true};
 ghost use Rattle.accept_rules.specs.Interlocks.{FollowsAccepts};
 ghost use Rattle.accept_rules.specs.Permissions.{Accepts};
 ghost use Rattle.bank_store.specs.DiskWrites.{IsRunning};
@@ -8,24 +8,22 @@ ghost use Rattle.bank_store.specs.Fits.{LosesOnlyWork};
 ghost use Rattle.disk_layout.specs.Holds.{standing_view};
 ghost use Rattle.disk_model.specs.Image.{Image};
 ghost use Rattle.disk_model.specs.State.{OnlyReads};
-ghost use Rattle.exchange_trace.specs.declared.trace.Side.TheVariants as sides;
-ghost use Rattle.exchange_trace.specs.Happenings.{Booted, happening_view};
-ghost use Rattle.exchange_trace.specs.Logs.{event_for};
-ghost use Rattle.exchange_trace.specs.Posts.{IsHonest, posted_in};
+ghost use Rattle.exchange_trace.specs.Happenings.{datagram_view, happening_view};
+ghost use Rattle.exchange_trace.specs.Posts.{numbered, posted_in};
 ghost use Rattle.exchange_trace.specs.Steps.{steps_of};
 ghost use Rattle.loader_machine.specs.Machine.{all_sessions, media_of, session_view};
 ghost use Rattle.media_check.specs.Sets.{set_view};
-ghost use Rattle.replay_rules.specs.BothEnds.{Setting, target_at};
-ghost use Rattle.replay_rules.specs.Changes.{InjectsBytes};
-ghost use Rattle.replay_rules.specs.Promises.{IsNoEnd};
+ghost use Rattle.replay_rules.specs.BothEnds.{Setting};
 ghost use Rattle.replay_turns.specs.Orders.{IsInOrder};
-ghost use Rattle.replay_turns.specs.Powers.{ArmsBy, RoseBy, disk_stops};
-ghost use Rattle.replay_turns.specs.StepsOnDisks.{AddsInStep, HoldsRun, Reboots};
+ghost use Rattle.replay_turns.specs.Powers.{RoseBy, disk_stops};
+ghost use Rattle.replay_turns.specs.Recordings.{posts_of_last};
+ghost use Rattle.replay_turns.specs.StepsOnDisks.{Reboots};
 ghost use Rattle.replay_turns.specs.Turns.{RunsWhileUp, target_kept};
 ghost use Rattle.transfer_end.specs.Calls.{posts_view};
 ghost use Rattle.upload_replay.specs.Drivers.{BeginsUnit, GoesOn, HoldsUnit, IsTiedTo};
-ghost use Rattle.upload_replay.specs.Drivers.{StandsOn, StepsUnit};
-ghost use Rattle.upload_replay.specs.Drives.{IsSet, IsUnitRun, NeverBoots};
+ghost use Rattle.upload_replay.specs.Drivers.{StandsOn};
+ghost use Rattle.upload_replay.specs.DriverSteps.{ActsOnDisk, CanStep, TakesStep};
+ghost use Rattle.upload_replay.specs.Drives.{IsSet, IsUnitRun};
 ghost use Rattle.upload_replay.specs.Drives.{has_session};
 ghost use Rattle.upload_replay.specs.Endings.{EndsUnit, FailsToBegin, FailedIfUnknown, HoldsSome};
 ghost use Rattle.upload_replay.specs.Endings.{IsEndFault, LeavesUnit, first_fault_of};
@@ -38,9 +36,9 @@ use accept_rules::{Interlock, Rule};
 use bank_store::{a_power_loss_takes_only_work, an_idle_store_works};
 use disk_layout::{Identity, RecoverFault, an_image_holds_one_configuration};
 use disk_model::Power;
-use exchange_trace::{Happening, TraceStep};
+use exchange_trace::{Datagram, Happening, TraceStep};
 use link_net::Waits;
-use load_base::{List, NoMemory};
+use load_base::{Bytes, List, NoMemory};
 use loader_machine::{Loader, Session};
 use media_check::MediaSet;
 use replay_rules::laws::{a_step_keeps_the_tie, contents_follow_their_trace};
@@ -124,36 +122,29 @@ impl<'m, R: Rule> Driver<'m, R> {
         }
     }
 
-    /// Both ends take what happens. What they post is the link's to carry: one end at most posts in
-    /// a step, two datagrams at most.
+    /// Both ends take what happens. What they post is answered, for the link to carry: one end at
+    /// most posts in a step, two datagrams at most.
     pub fn step<K: Power>(&mut self, disk: &mut K, happening: Happening) -> Result<Posts, NoMemory>
-        requires goes_on { GoesOn self.old }
-        requires no_end { IsNoEnd (happening_view happening) }
-        requires honest { IsHonest (posted_in self.old.steps) (happening_view happening) }
-        requires running { RunsWhileUp self.old.target (K.state disk.old) }
-        // With Ok.
-        ensures stepped { IfOk result (λ posts. StepsUnit (happening_view happening)
+        requires { CanStep (happening_view happening) self.old (K.state disk.old) }
+        ensures takes { IfOk result (λ posts. TakesStep R.may_say (happening_view happening)
             (posts_view posts) self.old self.new (K.state disk.old) (K.state disk.new)) }
-        ensures lives { (accepts : Accepts) → LivesOn R.may_say accepts self.old
-            → OnOk result (LivesOn R.may_say accepts self.new) }
-        ensures stands { (set : Setting) → StandsOn R.may_say set self.old
-            → OnOk result (StandsOn R.may_say set self.new) }
-        ensures tied { (set : Setting) → StandsOn R.may_say set self.old
-            → (NeverBoots self.old.steps → IsTiedTo set self.old)
-            → OnOk result (NeverBoots self.new.steps → IsTiedTo set self.new) }
-        ensures held { (set : Setting) (since : ℕ) (clocks : Clocks)
-            → StandsOn R.may_say set self.old
-            → HoldsUnit set since clocks self.old (K.state disk.old) → OnOk result (HoldsUnit set
-            since ((K.state disk.old).clock ∷ clocks) self.new (K.state disk.new)) }
         // Whatever it answers.
-        ensures arms { ArmsBy (happening_view happening) (K.state disk.old) (K.state disk.new) }
-        ensures reboots { happening_view happening ≡ Booted
-            → Reboots (K.state disk.old) (K.state disk.new) }
-        ensures injects { InjectsBytes (happening_view happening) }
-        ensures adds { (set : Setting) → StandsOn R.may_say set self.old
-            → HoldsRun set (target_at set self.old.steps) self.old.target (K.state disk.old)
-            → AddsInStep set (event_for sides.Target (posted_in self.old.steps)
-            (happening_view happening)) (target_at set self.old.steps) (K.state disk.old)
+        ensures acts { ActsOnDisk R.may_say (happening_view happening) self.old (K.state disk.old)
+            (K.state disk.new) }
+    {
+        let count = self.posted_count();
+        self.apply(disk, happening)?;
+        self.posts_after(count)
+    }
+
+    /// The same, but what they post is lent afterwards, by its number ([`Driver::posted`]).
+    pub fn apply<K: Power>(&mut self, disk: &mut K, happening: Happening) -> Result<(), NoMemory>
+        requires { CanStep (happening_view happening) self.old (K.state disk.old) }
+        ensures takes { OnOk result (TakesStep R.may_say (happening_view happening)
+            (posts_of_last self.new.steps) self.old self.new (K.state disk.old)
+            (K.state disk.new)) }
+        // Whatever it answers.
+        ensures acts { ActsOnDisk R.may_say (happening_view happening) self.old (K.state disk.old)
             (K.state disk.new) }
     {
         // For the proof: these do nothing.
@@ -161,7 +152,61 @@ impl<'m, R: Rule> Driver<'m, R> {
         contents_follow_their_trace();
         a_step_keeps_the_tie();
         both_ends_follow_their_logs();
-        self.ends.take(disk, happening)
+        self.ends.apply(disk, happening)
+    }
+
+    /// How many datagrams both ends posted. The newest has this number.
+    pub fn posted_count(&self) -> u64
+        ensures { result ≡ length (posted_in self.now.steps) }
+    {
+        self.ends.recording.posted_count()
+    }
+
+    /// The datagram of this number, from 1, if it was posted.
+    pub fn posted(&self, number: u64) -> Option<&Datagram>
+        ensures { option_map (λ d. datagram_view d.now) result
+            ≡ numbered (posted_in self.now.steps) number }
+    {
+        self.ends.recording.datagram(number)
+    }
+
+    /// Copies of what was posted after so many datagrams, which is two at most.
+    fn posts_after(&self, count: u64) -> Result<Posts, NoMemory>
+        requires few { length (posted_in self.now.steps) ≤ count + 2 }
+        requires within { count ≤ length (posted_in self.now.steps) }
+        ensures { IfOk result (λ posts. posts_view posts
+            ≡ drop count (posted_in self.now.steps)) }
+    {
+        let total = self.posted_count();
+        if count == total {
+            return Ok(Posts::none());
+        }
+        let first = self.copied(count + 1)?;
+        if count + 1 == total {
+            return Ok(Posts {
+                first,
+                second: None,
+            });
+        }
+        match self.copied(count + 2) {
+            Ok(second) => Ok(Posts { first, second }),
+            Err(NoMemory) => {
+                // For the proof: dropped by a call, not by scope.
+                drop(first);
+                Err(NoMemory)
+            }
+        }
+    }
+
+    /// A copy of the datagram of this number, if it was posted.
+    fn copied(&self, number: u64) -> Result<Option<Datagram>, NoMemory>
+        ensures { IfOk result (λ copy. option_map datagram_view copy
+            ≡ numbered (posted_in self.now.steps) number) }
+    {
+        match self.posted(number) {
+            Some(datagram) => Ok(Some(copy_of(self.ends.alloc, datagram)?)),
+            None => Ok(None),
+        }
     }
 
     /// The end comes: what each session came to, and what the disk holds. Where the target is down
@@ -214,7 +259,7 @@ impl<'m, R: Rule> Driver<'m, R> {
         // For the proof: dropped by a call, not by scope.
         drop(target);
         let sessions = loader.into_sessions();
-        match recording.give(Happening::End) {
+        match recording.record_happening(Happening::End) {
             Ok(()) => {}
             Err(NoMemory) => {
                 drop((recording, sessions));
@@ -281,4 +326,17 @@ fn first_fault(fault: BootFault) -> DriveFault
         BootFault::Recover(fault) => DriveFault::NoConfig(fault),
         BootFault::Memory => DriveFault::Memory,
     }
+}
+
+fn copy_of(alloc: Global, datagram: &Datagram) -> Result<Datagram, NoMemory>
+    ensures { IfOk result (λ copy. datagram_view copy ≡ datagram_view datagram.now) }
+{
+    let mut bytes = Bytes::new(alloc);
+    bytes.extend(datagram.bytes.as_slice())?;
+    Ok(Datagram {
+        from_side: datagram.from_side,
+        from: datagram.from,
+        to: datagram.to,
+        bytes,
+    })
 }

@@ -1,4 +1,4 @@
-use Rattle.std.proofs.Common.{Some, ap, sym, subst}
+use Rattle.std.proofs.Common.{Some, ap, sym, subst, rules}
 use Rattle.accept_rules.specs.Interlocks.{FollowsAccepts}
 use Rattle.replay_rules.specs.BothEnds.{Is_down}
 use Rattle.replay_turns.specs.StepsOnDisks.{HoldsRun}
@@ -12,7 +12,12 @@ returns-in-Ok-clause-rule g c = λ accepts follows. rw c.replace.ensures.after (
 
 pub returns-in-Ok-clause-boots : goal.returns-in-Ok-clause-boots
 returns-in-Ok-clause-boots g c =
-    rw c.replace.ensures.after (record { found = c.in-Ok.target.view.active; is = ap (λ v. Some v) c.in-Ok.ensures.comes_up.view_is; numbered = sym c.sequence-sequence.ensures })
+    rw c.replace.ensures.after (record {
+      noted = search rules;
+      boots = record { found = c.in-Ok.target.view.active; is = ap (λ v. Some v) c.in-Ok.ensures.comes_up.view_is; numbered = sym c.sequence-sequence.ensures };
+      running = search rules;
+      stops = search rules;
+    })
 
 pub returns-in-Ok-clause-holds : goal.returns-in-Ok-clause-holds
 returns-in-Ok-clause-holds g c = λ set active interrupted settled holds.

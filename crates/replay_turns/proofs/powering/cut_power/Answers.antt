@@ -1,4 +1,4 @@
-use Rattle.std.proofs.Common.{◌≡◌, ◌<◌, is_none, sym, ap, subst, ◌∙◌, true, false, arith}
+use Rattle.std.proofs.Common.{◌≡◌, ◌<◌, sym, ap, subst, ◌∙◌, true, false, arith}
 use Rattle.std.specs.Prelude.{is_some, not}
 use Rattle.replay_turns.specs.Turns.{RunsWhileUp}
 use Rattle.replay_turns.proofs.Stepping.{armed_steps, cut_steps}

@@ -5,7 +5,6 @@ use Rattle.exchange_trace.specs.Logs.{event_for}
 use Rattle.exchange_trace.specs.Posts.{posted_in}
 use Rattle.transfer_end.specs.Calls.{posts_view}
 use Rattle.replay_turns.specs.Turns.{RuleFollows}
-use Rattle.replay_turns.proofs.PowerLemmas.{leaves_arms}
 use Rattle.replay_turns.proofs.Taking.{took, took_alive, took_rule}
 use Rattle.replay_turns.proofs.Stepping.{down_steps, next_of, took_steps, unmade_steps}
 use Rattle.replay_turns.proofs.turn.reach_target.Goals as goal
@@ -31,10 +30,6 @@ returns-in-Ok-clause-rule g c =
     let rule = subst (λ o. RuleFollows g.R.Rule.may_say accepts o) slot follows in
     took_rule g.R.Rule.may_say accepts (event_for sides.Target (posted_in c.args.recording.now) (happening_view c.args.happening.now)) c.in-Some.target c.target_takes.new.target
     (posts_view c.in-Ok.posts) (c.in-Ok.ensures.takes accepts rule) rule
-
-pub returns-in-Err-DiskFailed-clause-arms : goal.returns-in-Err-DiskFailed-clause-arms
-returns-in-Err-DiskFailed-clause-arms g c =
-    leaves_arms (g.K.Disk.state c.args.disk.now) (g.K.Disk.state c.target_takes.new.disk) c.target_takes.ensures.writes.goes_on.power (happening_view c.args.happening.now) c.requires.power
 
 pub returns-in-Ok-clause-steps : goal.returns-in-Ok-clause-steps
 returns-in-Ok-clause-steps g c =

@@ -11,7 +11,7 @@ pub returns-in-Power-clause-lives : goal.returns-in-Power-clause-lives
 returns-in-Power-clause-lives g c = λ accepts follows. rw (c.in-Power.is, c.none.ensures) (c.cut_power.ensures.lives accepts)
 
 pub returns-in-Power-clause-noted : goal.returns-in-Power-clause-noted
-returns-in-Power-clause-noted g c = rw c.in-Power.is (c.cut_power.ensures.noted (first_port_after c.args.recording.now))
+returns-in-Power-clause-noted g c = rw (c.in-Power.is, c.none.ensures) (c.cut_power.ensures.noted (first_port_after c.args.recording.now))
 
 pub returns-in-Power-clause-rule : goal.returns-in-Power-clause-rule
 returns-in-Power-clause-rule g c = λ accepts says follows. c.cut_power.ensures.rule accepts follows

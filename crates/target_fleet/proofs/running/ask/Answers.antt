@@ -5,7 +5,7 @@ use Rattle.exchange_trace.specs.Happenings.{HappeningView, happening_view}
 use Rattle.loader_machine.specs.Machine.{all_sessions}
 use Rattle.target_fleet.specs.AskedTurns.{AsksUnit, asked_more}
 use Rattle.target_fleet.specs.Runs.{FleetState}
-use Rattle.target_fleet.specs.Steps.{CanStep}
+use Rattle.upload_replay.specs.DriverSteps.{CanStep}
 use Rattle.target_fleet.proofs.BatchTurns.{asks_of}
 use Rattle.target_fleet.proofs.Indexed.{same_there}
 use Rattle.target_fleet.proofs.running.ask.Goals as goal

@@ -40,7 +40,7 @@ returns-then-is_end-clause-arms g c =
 
 pub returns-in-Err-clause-arms : goal.returns-in-Err-clause-arms
 returns-in-Err-clause-arms g c =
-    arms_one _ _ (happening_view c.in_ok-happening.happening) (g.K.Disk.state c.args.disk.now) (g.K.Disk.state c.step.new.disk) c.in_ok-happening.ensures.ok.given c.step.ensures.arms
+    arms_one _ _ (happening_view c.in_ok-happening.happening) (g.K.Disk.state c.args.disk.now) (g.K.Disk.state c.step.new.disk) c.in_ok-happening.ensures.ok.given c.step.ensures.acts.arms
 
 pub returns-in-Err-clause-leaves : goal.returns-in-Err-clause-leaves
 returns-in-Err-clause-leaves g c =
@@ -48,36 +48,36 @@ returns-in-Err-clause-leaves g c =
     let disk = g.K.Disk.state c.args.disk.now in
     history_last {T = Bool} set began since c.args.driver.now disk c.requires.goes_on runs.goes_on.tied runs.clocks runs.held
     (all_held set disk (g.met.K.Disk.wider c.args.disk.now) (g.met.K.Disk.splits c.args.disk.now) (g.met.K.Disk.only_now c.args.disk.now) since runs.clocks c.args.driver.now.steps c.args.driver.now.target runs.held) _
-    (g.K.Disk.state c.step.new.disk) (happening_view c.in_ok-happening.happening) (g.L.Link.state c.args.link.now) (g.L.Link.state c.next.new.self) (λ link. cc) c.step.ensures.injects runs.goes_on.linked
-    c.in_ok-happening.ensures.ok.posted c.in_ok-happening.ensures.ok.given (c.step.ensures.adds set stands runs.held.holds)
+    (g.K.Disk.state c.step.new.disk) (happening_view c.in_ok-happening.happening) (g.L.Link.state c.args.link.now) (g.L.Link.state c.next.new.self) (λ link. cc) c.step.ensures.acts.injects runs.goes_on.linked
+    c.in_ok-happening.ensures.ok.posted c.in_ok-happening.ensures.ok.given (c.step.ensures.acts.adds set stands runs.held.holds)
 
 pub returns-in-Ok-post_all-clause-arms : goal.returns-in-Ok-post_all-clause-arms
 returns-in-Ok-post_all-clause-arms g c =
     arms_one _ _ (happening_view c.in_ok-happening.happening) (g.K.Disk.state c.args.disk.now) (g.K.Disk.state c.step.new.disk)
-    (ap (λ (l : LinkState). l.given) c.post_all.ensures.in_part.linked ∙ c.in_ok-happening.ensures.ok.given) c.step.ensures.arms
+    (ap (λ (l : LinkState). l.given) c.post_all.ensures.in_part.linked ∙ c.in_ok-happening.ensures.ok.given) c.step.ensures.acts.arms
 
 pub returns-in-Err-post_all-clause-arms : goal.returns-in-Err-post_all-clause-arms
 returns-in-Err-post_all-clause-arms g c =
     arms_one _ _ (happening_view c.in_ok-happening.happening) (g.K.Disk.state c.args.disk.now) (g.K.Disk.state c.step.new.disk)
-    (ap (λ (l : LinkState). l.given) c.post_all.ensures.in_part.linked ∙ c.in_ok-happening.ensures.ok.given) c.step.ensures.arms
+    (ap (λ (l : LinkState). l.given) c.post_all.ensures.in_part.linked ∙ c.in_ok-happening.ensures.ok.given) c.step.ensures.acts.arms
 
 pub returns-in-Ok-post_all-clause-goes_on : goal.returns-in-Ok-post_all-clause-goes_on
 returns-in-Ok-post_all-clause-goes_on g c =
     λ set began stands before all.
-    let stepped = c.in-Ok.ensures.stepped in
+    let stepped = c.in-Ok.ensures.takes.stepped in
     let never = rw stepped.recorded at all in
     let on = before never.1 in
     turn_on set began (g.L.Link.state c.args.link.now) (g.L.Link.state c.next.new.self) (g.L.Link.state c.post_all.new.link) c.args.driver.now c.step.new.self (happening_view c.in_ok-happening.happening) (posts_view c.in-Ok.posts)
     (g.K.Disk.state c.args.disk.now) (g.K.Disk.state c.step.new.disk) stepped c.waits-waits.result.loader c.waits-waits.result.target c.waits-waits.ensures.loader c.waits-waits.ensures.target c.in_ok-happening.ensures.ok
-    c.in-Ok-post_all.ensures.posts on (c.in-Ok.ensures.tied set stands (λ none. (before none).tied) all)
+    c.in-Ok-post_all.ensures.posts on (c.in-Ok.ensures.takes.tied set stands (λ none. (before none).tied) all)
 
 pub returns-in-Ok-post_all-clause-held : goal.returns-in-Ok-post_all-clause-held
 returns-in-Ok-post_all-clause-held g c =
     λ set began since stands runs.
-    let unit = c.in-Ok.ensures.held set since runs.clocks stands (record { tied = runs.goes_on.tied; held = runs.held }) in
+    let unit = c.in-Ok.ensures.takes.held set since runs.clocks stands (record { tied = runs.goes_on.tied; held = runs.held }) in
     record {
       goes_on = turn_on set began (g.L.Link.state c.args.link.now) (g.L.Link.state c.next.new.self) (g.L.Link.state c.post_all.new.link) c.args.driver.now c.step.new.self (happening_view c.in_ok-happening.happening) (posts_view c.in-Ok.posts)
-          (g.K.Disk.state c.args.disk.now) (g.K.Disk.state c.step.new.disk) c.in-Ok.ensures.stepped c.waits-waits.result.loader c.waits-waits.result.target c.waits-waits.ensures.loader c.waits-waits.ensures.target c.in_ok-happening.ensures.ok
+          (g.K.Disk.state c.args.disk.now) (g.K.Disk.state c.step.new.disk) c.in-Ok.ensures.takes.stepped c.waits-waits.result.loader c.waits-waits.result.target c.waits-waits.ensures.loader c.waits-waits.ensures.target c.in_ok-happening.ensures.ok
           c.in-Ok-post_all.ensures.posts runs.goes_on unit.tied;
       clocks = (g.K.Disk.state c.args.disk.now).clock ∷ runs.clocks;
       held = unit.held;
@@ -88,8 +88,8 @@ returns-in-Err-post_all-clause-leaves g c =
     λ set began since stands runs.
     let new = g.K.Disk.state c.step.new.disk in
     let clocks = (g.K.Disk.state c.args.disk.now).clock ∷ runs.clocks in
-    let stepped = c.in-Ok.ensures.stepped in
-    let unit = c.in-Ok.ensures.held set since runs.clocks stands (record { tied = runs.goes_on.tied; held = runs.held }) in
+    let stepped = c.in-Ok.ensures.takes.stepped in
+    let unit = c.in-Ok.ensures.takes.held set since runs.clocks stands (record { tied = runs.goes_on.tied; held = runs.held }) in
     history_posted {T = Bool} set began since c.step.new.self new stepped.goes_on unit.tied clocks unit.held
     (all_held set new (g.met.K.Disk.wider c.step.new.disk) (g.met.K.Disk.splits c.step.new.disk) (g.met.K.Disk.only_now c.step.new.disk) since clocks c.step.new.self.steps c.step.new.self.target unit.held) _
     c.args.driver.now.steps stepped.step (g.L.Link.state c.args.link.now) (g.L.Link.state c.next.new.self) (g.L.Link.state c.post_all.new.link) stepped.recorded runs.goes_on.linked c.in_ok-happening.ensures.ok.posted
@@ -98,7 +98,7 @@ returns-in-Err-post_all-clause-leaves g c =
 
 pub returns-in-Ok-post_all-clause-ready : goal.returns-in-Ok-post_all-clause-ready
 returns-in-Ok-post_all-clause-ready g c =
-    let stepped = c.in-Ok.ensures.stepped in
+    let stepped = c.in-Ok.ensures.takes.stepped in
     record {
       goes_on = stepped.goes_on;
       running = stepped.running;
