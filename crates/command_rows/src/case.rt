@@ -150,8 +150,7 @@ impl Case {
         bytes: &[u8],
     ) -> Result<(), NoMemory> {
         let name = String::from_str(alloc, name)?;
-        let mut copy = Bytes::new(alloc);
-        copy.extend(bytes)?;
+        let copy = Bytes::copy_of(alloc, bytes)?;
         self.files.push(HostFile { name, bytes: copy })?;
         Ok(())
     }
@@ -165,8 +164,7 @@ impl Case {
         text: &[u8],
     ) -> Result<(), NoMemory> {
         let name = String::from_str(alloc, name)?;
-        let mut copy = Bytes::new(alloc);
-        copy.extend(text)?;
+        let copy = Bytes::copy_of(alloc, text)?;
         self.known.push(Known {
             name,
             whole,

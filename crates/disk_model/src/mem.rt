@@ -56,8 +56,7 @@ impl MemDisk {
         ensures calls { IfOk result (λ disk.
             ((calls_of disk).failing ≡ []) × ((calls_of disk).next ≡ 1)) }
     {
-        let mut first = Bytes::new(alloc);
-        first.extend(bytes)?;
+        let first = Bytes::copy_of(alloc, bytes)?;
         let mut held = Vec::new(alloc);
         held.extend_from_slice(bytes)?;
         Ok(MemDisk {
@@ -261,8 +260,7 @@ fn note_write(
     ensures not_noted { OnErr result (notes.new.items ≡ notes.old.items) }
     ensures err { OnErr result (held.new.items ≡ held.old.items) }
 {
-    let mut copy = Bytes::new(alloc);
-    copy.extend(bytes)?;
+    let copy = Bytes::copy_of(alloc, bytes)?;
     notes.reserve(1)?;
     if done {
         overwrite(held, at as usize, bytes)?;

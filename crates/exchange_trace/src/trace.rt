@@ -34,13 +34,11 @@ impl Datagram {
     pub fn copy(&self, alloc: Global) -> Result<Datagram, NoMemory>
         ensures { IfOk result (λ copy. datagram_view copy ≡ datagram_view self.now) }
     {
-        let mut bytes = Bytes::new(alloc);
-        bytes.extend(self.bytes.as_slice())?;
         Ok(Datagram {
             from_side: self.from_side,
             from: self.from,
             to: self.to,
-            bytes,
+            bytes: Bytes::copy_of(alloc, self.bytes.as_slice())?,
         })
     }
 }

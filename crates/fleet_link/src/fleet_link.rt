@@ -124,7 +124,7 @@ impl FleetLink {
         requires start { IsUploadStart (happening_view start.now) }
         ensures { self.new ≡ with_start_at self.old unit (happening_view start.now) }
     {
-        self.mail.give(unit, start);
+        self.mail.note_given(unit, start);
     }
 
     /// What happens next and at which unit, where that is a datagram that a `finish` delivers. It
@@ -139,7 +139,7 @@ impl FleetLink {
         match self.rest {
             FleetRest::Finishing(_) | FleetRest::BatchFinishing(_) => {
                 let (unit, given) = self.mail.least_at_unit()?;
-                self.mail.give(unit, &given);
+                self.mail.note_given(unit, &given);
                 Some((unit, given))
             }
             FleetRest::Nothing | FleetRest::Deliveries(_) => None,
@@ -179,7 +179,7 @@ fn keep(mail: &mut FleetMail, given: &FleetHappening)
     ensures { mail.new ≡ with_gift mail.old (fleet_happening_view given.now) }
 {
     match given {
-        FleetHappening::At { unit, happening } => mail.give(*unit, happening),
+        FleetHappening::At { unit, happening } => mail.note_given(*unit, happening),
         FleetHappening::Batch(_) | FleetHappening::AskNext | FleetHappening::End => {}
     }
 }

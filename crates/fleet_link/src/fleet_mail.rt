@@ -156,14 +156,14 @@ impl FleetMail {
     }
 
     /// Keeps what is given at this unit.
-    pub fn give(&mut self, unit: u8, given: &Happening)
+    pub fn note_given(&mut self, unit: u8, given: &Happening)
         requires { NamesPlaced self.old (At_unit unit (happening_view given.now)) }
         ensures { self.new ≡ record {
           posted = self.old.posted;
           given = At_unit unit (happening_view given.now) ∷ self.old.given;
         } }
     {
-        give_at(&mut self.mails, unit as usize - 1, given);
+        note_given_at(&mut self.mails, unit as usize - 1, given);
         self.least = next_undelivered(&self.mails, self.places.as_slice(), self.least);
         self.given = self.given.and(given, &unit);
     }
@@ -239,13 +239,13 @@ fn note_post_at(mails: &mut [Mail], index: usize, datagram: &Datagram) -> Result
 }
 
 /// Keeps what is given at the unit of this index.
-fn give_at(mails: &mut [Mail], index: usize, given: &Happening)
+fn note_given_at(mails: &mut [Mail], index: usize, given: &Happening)
     requires within { index < length mails.old }
     requires named { (m : MailView) → slice_get mails.old index ≡ Some m
         → NamesPosted (length m.posted) (happening_view given.now) }
     ensures { GivesAt index (happening_view given.now) mails.old mails.new }
 {
-    mails[index].give(given);
+    mails[index].note_given(given);
 }
 
 /// The index of the first undelivered datagram, from this one on, or how many there are.

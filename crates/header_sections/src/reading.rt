@@ -67,9 +67,7 @@ pub fn read_user_data(
     test_section(reader, which, said)?;
     let words = reader.take_u16()? as usize;
     let bytes = reader.take_raw(2 * words)?;
-    let mut user = Bytes::new(alloc);
-    user.extend(bytes)?;
-    Ok(user)
+    Ok(Bytes::copy_of(alloc, bytes)?)
 }
 
 // ---- texts

@@ -131,7 +131,7 @@ impl Mail {
     }
 
     /// Keeps what is given.
-    pub fn give(&mut self, given: &Happening)
+    pub fn note_given(&mut self, given: &Happening)
         requires { NamesPosted (length self.old.posted) (happening_view given.now) }
         ensures { self.new ≡ with_given self.old (happening_view given.now) }
     {

@@ -93,7 +93,7 @@ impl Link for ScriptLink {
             return Err(LinkFault::Memory);
         };
         let Turn { given, rest } = turn;
-        self.mail.give(&given);
+        self.mail.note_given(&given);
         self.next = next;
         self.rest = rest;
         Ok(given)

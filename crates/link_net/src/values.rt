@@ -70,16 +70,8 @@ pub fn payload_in(alloc: Global, line: u64, word: &[u8]) -> Result<Bytes, Script
         return Err(ScriptFault::Hex(line));
     }
     match hex::decode(alloc, word) {
-        Ok(bytes) => Ok(bytes_of(alloc, bytes.as_slice())?),
+        Ok(bytes) => Ok(Bytes::copy_of(alloc, bytes.as_slice())?),
         Err(FromHexError::OutOfMemory) => Err(ScriptFault::Memory),
         Err(_) => Err(ScriptFault::Hex(line)),
     }
-}
-
-fn bytes_of(alloc: Global, slice: &[u8]) -> Result<Bytes, NoMemory>
-    ensures { IfOk result (λ bytes. bytes.items ≡ slice.now) }
-{
-    let mut bytes = Bytes::new(alloc);
-    bytes.extend(slice)?;
-    Ok(bytes)
 }

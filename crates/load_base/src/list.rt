@@ -1,6 +1,6 @@
 //! Lists that can reserve spare capacity.
 ghost use Rattle.std.specs.Prelude.{◌≡◌, ◌+◌, ◌<◌, ◌≤◌, ◌↔◌, [], ◌∷◌, ◌++◌, length, IsOk};
-ghost use Rattle.std.specs.Prelude.{IsTrue, IsNone, IfNone, IfSome, OnOk, OnErr};
+ghost use Rattle.std.specs.Prelude.{IsTrue, IsNone, IfNone, IfSome, IfOk, OnOk, OnErr};
 
 use std::alloc::{AllocError, AllocFailed, Global};
 use std::marker::Model;
@@ -156,6 +156,15 @@ impl<T: Eq> Eq for List<T> {
 }
 
 impl List<u8> {
+    /// A list of these bytes.
+    pub fn copy_of(alloc: Global, bytes: &[u8]) -> Result<Bytes, NoMemory>
+        ensures { IfOk result (λ copy. copy.items ≡ bytes.now) }
+    {
+        let mut copy = List::new(alloc);
+        copy.extend(bytes)?;
+        Ok(copy)
+    }
+
     /// Adds all the bytes at the end, or none.
     pub fn extend(&mut self, bytes: &[u8]) -> Result<(), NoMemory>
         ensures ok { OnOk result (self.new.items ≡ self.old.items ++ bytes.now) }

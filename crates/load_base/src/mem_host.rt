@@ -1,5 +1,5 @@
 //! A host in memory.
-ghost use Rattle.std.specs.Prelude.{◌≡◌, ◌↔◌, ◌≤◌, ◌∷◌, ◌++◌, [], Some, OnOk, OnErr, IfOk, IfErr};
+ghost use Rattle.std.specs.Prelude.{◌≡◌, ◌↔◌, ◌≤◌, ◌∷◌, ◌++◌, [], Some, OnOk, OnErr, IfOk};
 ghost use Rattle.std.specs.Prelude.{IsErrOf, length, option_map};
 ghost use Rattle.load_base.specs.Bytes.{same_bytes};
 ghost use Rattle.load_base.specs.Host.{ReadsFile, WritesFile, HasReadCause, longest_file};
@@ -81,7 +81,10 @@ impl Host for MemHost {
         }
         match last_of(self.written.as_slice(), name) {
             Some(bytes) if bytes.len() > LONGEST_FILE => Err(ReadFault::TooLong),
-            Some(bytes) => copy_of(alloc, bytes),
+            Some(bytes) => match Bytes::copy_of(alloc, bytes) {
+                Ok(copy) => Ok(copy),
+                Err(NoMemory) => Err(ReadFault::Memory),
+            },
             None => Err(ReadFault::Absent),
         }
     }
@@ -122,17 +125,6 @@ fn is_same<'a>(one: &'a [u8], other: &'a [u8]) -> bool
     ensures { result ≡ same_bytes one.now other.now }
 {
     one == other
-}
-
-fn copy_of(alloc: Global, bytes: &[u8]) -> Result<Bytes, ReadFault>
-    ensures copy { IfOk result (λ copy. copy.items ≡ bytes.now) }
-    ensures only_memory { IfErr result (λ fault. fault ≡ ReadFault.Memory) }
-{
-    let mut copy = Bytes::new(alloc);
-    match copy.extend(bytes) {
-        Ok(()) => Ok(copy),
-        Err(NoMemory) => Err(ReadFault::Memory),
-    }
 }
 
 fn append(

@@ -60,7 +60,7 @@ impl Text {
         if let Some(offset) = first_bad(bytes) {
             return Err(TextFault::BadByte(offset as u64));
         }
-        Ok(copy_of(alloc, bytes)?)
+        Ok(Text::copy_of(alloc, bytes)?)
     }
 
     /// The name of a file, as a text.
@@ -68,7 +68,7 @@ impl Text {
     pub fn of_name(alloc: Global, name: &Name) -> Result<Text, NoMemory>
         ensures { IfOk result (λ text. text ≡ name.now) }
     {
-        copy_of(alloc, name.as_slice())
+        Text::copy_of(alloc, name.as_slice())
     }
 
     /// The name of a target or of its hardware or position, as a text.
@@ -76,7 +76,7 @@ impl Text {
     pub fn of_ident(alloc: Global, ident: &Ident) -> Result<Text, NoMemory>
         ensures { IfOk result (λ text. text ≡ ident.now) }
     {
-        copy_of(alloc, ident.as_slice())
+        Text::copy_of(alloc, ident.as_slice())
     }
 
     /// A part number, as a text.
@@ -84,7 +84,23 @@ impl Text {
     pub fn of_part(alloc: Global, part: &PartText) -> Result<Text, NoMemory>
         ensures { IfOk result (λ text. text ≡ part.now) }
     {
-        copy_of(alloc, part.as_slice())
+        Text::copy_of(alloc, part.as_slice())
+    }
+
+    /// A text of these bytes, which are known to be one.
+    pub fn copy_of(alloc: Global, bytes: &[u8]) -> Result<Text, NoMemory>
+        requires { IsText bytes.now }
+        ensures { IfOk result (λ text. text ≡ bytes.now) }
+    {
+        let bytes = Bytes::copy_of(alloc, bytes)?;
+        Ok(Text::of_printable(bytes))
+    }
+
+    /// The same text again.
+    pub fn copy(&self, alloc: Global) -> Result<Text, NoMemory>
+        ensures { IfOk result (λ copy. copy ≡ self.now) }
+    {
+        Text::copy_of(alloc, self.as_slice())
     }
 
     /// The text of no bytes. It takes no memory yet.
@@ -131,15 +147,6 @@ impl Eq for Text {
     ghost use Rattle.std.specs.Cmp.Lexicographic.{nat_list_eq_equiv};
 
     ghost laws = { nat_list_eq_equiv };
-}
-
-fn copy_of(alloc: Global, bytes: &[u8]) -> Result<Text, NoMemory>
-    requires { IsText bytes.now }
-    ensures { IfOk result (λ text. text ≡ bytes.now) }
-{
-    let mut copy = Bytes::new(alloc);
-    copy.extend(bytes)?;
-    Ok(Text::of_printable(copy))
 }
 
 /// The offset of the first byte that no Text has.

@@ -2,7 +2,7 @@
 ghost use Rattle.std.specs.Prelude.{◌≡◌, None, IfOk};
 ghost use Rattle.loader_cli.specs.Answers.{status_of, text_of};
 
-use crate::text::{copy_of, no_configuration_text, no_former_text, refused_text};
+use crate::text::{no_configuration_text, no_former_text, refused_text};
 use bank_rollback::RollbackFault;
 use load_base::{Bytes, NoMemory, Text};
 use recovery::RecoverFault;
@@ -91,7 +91,7 @@ impl Answer<'_> {
     {
         match self {
             Answer::Done(text) | Answer::Findings(text) | Answer::Unfinished(text) => Ok(text),
-            Answer::RefusedWords => copy_of(alloc, b"refused words\n"),
+            Answer::RefusedWords => Bytes::copy_of(alloc, b"refused words\n"),
             Answer::Absent(name) => refused_text(alloc, name, b"absent"),
             Answer::TooLong(name) => refused_text(alloc, name, b"toolong"),
             Answer::AbsentFile(name) => refused_text(alloc, name.as_slice(), b"absent"),
@@ -101,8 +101,8 @@ impl Answer<'_> {
             Answer::RefusedFile { name, fault } => {
                 refused_text(alloc, name.as_slice(), fault.as_slice())
             }
-            Answer::HostFault => copy_of(alloc, b"host fault\n"),
-            Answer::DiskFault => copy_of(alloc, b"disk fault\n"),
+            Answer::HostFault => Bytes::copy_of(alloc, b"host fault\n"),
+            Answer::DiskFault => Bytes::copy_of(alloc, b"disk fault\n"),
             Answer::NoConfiguration(fault) => no_configuration_text(alloc, fault),
             Answer::NoFormer(fault) => no_former_text(alloc, fault),
         }

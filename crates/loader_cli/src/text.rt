@@ -75,12 +75,3 @@ pub(crate) fn refused_text(alloc: Global, name: &[u8], fault: &[u8]) -> Result<B
     out.extend(b"\n")?;
     Ok(out)
 }
-
-/// These bytes in a list of their own.
-pub(crate) fn copy_of(alloc: Global, bytes: &[u8]) -> Result<Bytes, NoMemory>
-    ensures { IfOk result (λ text. text.items ≡ bytes.now) }
-{
-    let mut out = Bytes::new(alloc);
-    out.extend(bytes)?;
-    Ok(out)
-}

@@ -317,15 +317,15 @@ impl<'m> Loader<'m> {
             return Ok(Posts::none());
         }
         match packet {
-            Packet::Rrq { name, options } => self.give(from, name, *options),
-            Packet::Wrq { name, options } => self.accept(from, name, *options),
+            Packet::Rrq { name, options } => self.serve_file(from, name, *options),
+            Packet::Wrq { name, options } => self.receive_file(from, name, *options),
             _ => Ok(Posts::none()),
         }
     }
 
     /// A request to read a file, which is taken after the LUR alone. One that the media set doesn't
     /// hold is refused.
-    fn give(&mut self, from: u16, name: &Name, options: Options) -> Result<Posts, NoMemory>
+    fn serve_file(&mut self, from: u16, name: &Name, options: Options) -> Result<Posts, NoMemory>
         requires { AreInRange options }
         ensures { ForSome self.old.view.live (λ s. IfOk result (λ posts. LoaderDoes
             (reading (media_of self.old.set) self.old.view.end s from name.now options)
@@ -358,7 +358,7 @@ impl<'m> Loader<'m> {
     }
 
     /// A request to write a file, which is taken if the row takes one of this name.
-    fn accept(&mut self, from: u16, name: &Name, options: Options) -> Result<Posts, NoMemory>
+    fn receive_file(&mut self, from: u16, name: &Name, options: Options) -> Result<Posts, NoMemory>
         requires { AreInRange options }
         ensures { ForSome self.old.view.live (λ s. IfOk result (λ posts. LoaderDoes
             (write_decision self.old.view.end s.start from name.now options (kind_taken s.row))
@@ -428,11 +428,11 @@ impl<'m> Loader<'m> {
         match news {
             News::Nothing => Ok(None),
             News::Block(payload) => {
-                self.take(payload)?;
+                self.add_payload(payload)?;
                 Ok(None)
             }
             News::Last(payload) => {
-                self.take(payload)?;
+                self.add_payload(payload)?;
                 let turn = self.turn_of_file()?;
                 self.turn(turn)
             }
@@ -442,7 +442,7 @@ impl<'m> Loader<'m> {
     }
 
     /// More of a file arrives.
-    fn take(&mut self, payload: &[u8]) -> Result<(), NoMemory>
+    fn add_payload(&mut self, payload: &[u8]) -> Result<(), NoMemory>
         ensures { OnOk result
             (self.new ≡ with_session self.old (continued self.old.view.live payload.now)) }
     {

@@ -31,7 +31,7 @@ pub(crate) fn header_of(
     Ok(LoadHeader {
         flags: 0,
         part: line.part,
-        type_name: copy_of(alloc, &line.type_name)?,
+        type_name: line.type_name.copy(alloc)?,
         type_id: line.type_id,
         hardware: hardware_of(alloc, own)?,
         positions: positions_of(alloc, own)?,
@@ -62,7 +62,7 @@ fn entry_of(alloc: Global, file: &SourceFile) -> Result<FileEntry, NoMemory>
     let bytes = file.bytes();
     Ok(FileEntry {
         name: line.name,
-        part: copy_of(alloc, &line.part)?,
+        part: line.part.copy(alloc)?,
         length: bytes.len() as u32,
         crc16: crc16(bytes),
     })
@@ -83,7 +83,7 @@ fn put_hardware(alloc: Global, statement: &Statement, list: &mut List<Text>) -> 
     ensures { OnOk result (list.new.items ≡ list.old.items ++ hardware_in statement.now) }
 {
     if let Statement::Hardware(id) = statement {
-        let id = copy_of(alloc, id)?;
+        let id = id.copy(alloc)?;
         list.push(id)?;
     }
     Ok(())
@@ -107,13 +107,4 @@ fn put_user(statement: &Statement, bytes: &mut Bytes) -> Result<(), NoMemory>
         bytes.extend(user.as_slice())?;
     }
     Ok(())
-}
-
-/// The same text again.
-pub(crate) fn copy_of(alloc: Global, text: &Text) -> Result<Text, NoMemory>
-    ensures { IfOk result (λ copy. copy ≡ text.now) }
-{
-    let mut bytes = Bytes::new(alloc);
-    bytes.extend(text.as_slice())?;
-    Ok(Text::of_printable(bytes))
 }

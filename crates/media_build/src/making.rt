@@ -126,7 +126,7 @@ fn header_start(alloc: Global, file: &[u8]) -> Result<LoadHeader, NoMemory>
     Ok(LoadHeader {
         flags: 0,
         part: load_number(),
-        type_name: text(alloc, b"MAKE")?,
+        type_name: Text::copy_of(alloc, b"MAKE")?,
         type_id: 1,
         hardware: hardware(alloc)?,
         positions: List::new(alloc),
@@ -143,7 +143,7 @@ fn file_entry(alloc: Global, file: &[u8]) -> Result<FileEntry, NoMemory>
 {
     Ok(FileEntry {
         name: file_name(),
-        part: text(alloc, b"MAKE")?,
+        part: Text::copy_of(alloc, b"MAKE")?,
         length: file.len() as u32,
         crc16: crc16(file),
     })
@@ -153,7 +153,7 @@ fn hardware(alloc: Global) -> Result<List<Text>, NoMemory>
     ensures { IfOk result (λ hardware. hardware.items ≡ codes "HW1" ∷ []) }
 {
     let mut hardware = List::new(alloc);
-    hardware.push(text(alloc, b"HW1")?)?;
+    hardware.push(Text::copy_of(alloc, b"HW1")?)?;
     Ok(hardware)
 }
 
@@ -220,7 +220,7 @@ fn listed(alloc: Global, name: Name, bytes: &[u8]) -> Result<ListedFile, NoMemor
 {
     Ok(ListedFile {
         name,
-        path: text(alloc, b"\\")?,
+        path: Text::copy_of(alloc, b"\\")?,
         member: 1,
         crc16: crc16(bytes),
     })
@@ -270,13 +270,4 @@ fn name(bytes: &[u8]) -> Name
         // The premise says that this is a name.
         Err(_) => unreachable!(),
     }
-}
-
-fn text(alloc: Global, bytes: &[u8]) -> Result<Text, NoMemory>
-    requires { IsText bytes.now }
-    ensures { IfOk result (λ text. text ≡ bytes.now) }
-{
-    let mut copy = Bytes::new(alloc);
-    copy.extend(bytes)?;
-    Ok(Text::of_printable(copy))
 }

@@ -6,7 +6,6 @@ ghost use Rattle.media_build.specs.Parts.{one_position, statements, with_positio
 ghost use Rattle.media_build.specs.Parts.{HasOneMore};
 ghost use Rattle.media_build.specs.RecipeSets.{gathered, position_in};
 
-use crate::gathering::copy_of;
 use crate::statements::{RecipeLine, Statement};
 use indexmap::IndexSet;
 use load_base::{List, NoMemory, Text};
@@ -133,9 +132,9 @@ fn first_of(alloc: Global, hardware: &Text, position: &Text) -> Result<HardwareA
         ≡ one_position hardware.now position.now) }
 {
     let mut positions = List::new(alloc);
-    positions.push(copy_of(alloc, position)?)?;
+    positions.push(position.copy(alloc)?)?;
     Ok(HardwareAt {
-        hardware: copy_of(alloc, hardware)?,
+        hardware: hardware.copy(alloc)?,
         positions,
     })
 }
@@ -145,7 +144,7 @@ fn add_position(alloc: Global, kind: &mut HardwareAt, position: &Text) -> Result
     ensures positions { OnOk result (kind.new.positions.items
         ≡ kind.old.positions.items ++ position.now ∷ []) }
 {
-    let position = copy_of(alloc, position)?;
+    let position = position.copy(alloc)?;
     kind.positions.push(position)?;
     Ok(())
 }
@@ -169,7 +168,7 @@ impl Hardware {
         ensures { IfOk result (λ hardware. hardware ≡ text.now) }
     {
         Ok(Hardware {
-            text: copy_of(alloc, text)?,
+            text: text.copy(alloc)?,
         })
     }
 }

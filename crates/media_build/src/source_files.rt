@@ -5,7 +5,6 @@ ghost use Rattle.media_build.specs.NoFindings.{body_view};
 ghost use Rattle.media_build.specs.Parts.{all_files, body_of, files_from, statements};
 ghost use Rattle.media_build.specs.Parts.{with_file as and_file};
 
-use crate::gathering::copy_of;
 use crate::statements::{FileLine, RecipeLine, Statement};
 use load_base::{Bytes, List, NoMemory};
 use media_check::Placed;
@@ -38,8 +37,8 @@ impl SourceFile {
         let line = FileLine {
             name: line.name,
             member: line.member,
-            source: copy_of(alloc, &line.source)?,
-            part: copy_of(alloc, &line.part)?,
+            source: line.source.copy(alloc)?,
+            part: line.part.copy(alloc)?,
         };
         Ok(SourceFile { line, bytes })
     }

@@ -98,17 +98,15 @@ fn read_source<H: Host>(
             }
             Ok(bytes)
         }
-        Err(ReadFault::Absent) => Err(BuildFault::Absent(bytes_of(alloc, name)?)),
-        Err(ReadFault::TooLong) => Err(BuildFault::TooLong(bytes_of(alloc, name)?)),
+        Err(ReadFault::Absent) => {
+            let name = Bytes::copy_of(alloc, name.as_slice())?;
+            Err(BuildFault::Absent(name))
+        }
+        Err(ReadFault::TooLong) => {
+            let name = Bytes::copy_of(alloc, name.as_slice())?;
+            Err(BuildFault::TooLong(name))
+        }
         Err(ReadFault::Failed) => Err(BuildFault::Failed),
         Err(ReadFault::Memory) => Err(BuildFault::Memory),
     }
-}
-
-fn bytes_of(alloc: Global, name: &Text) -> Result<Bytes, NoMemory>
-    ensures { IfOk result (λ copy. copy.items ≡ name.now) }
-{
-    let mut copy = Bytes::new(alloc);
-    copy.extend(name.as_slice())?;
-    Ok(copy)
 }

@@ -75,7 +75,7 @@ pub(crate) fn put_of_list(
     if !holds {
         return Ok(());
     }
-    let file = text_of(alloc, name)?;
+    let file = Text::copy_of(alloc, name)?;
     out.push(Finding {
         kind,
         member,
@@ -97,7 +97,7 @@ pub(crate) fn put_detailed_of_list(
     ensures { OnOk result (out.new.items ≡ out.old.items
         ++ detailed kind member name.now detail ∷ []) }
 {
-    let file = text_of(alloc, name)?;
+    let file = Text::copy_of(alloc, name)?;
     out.push(Finding {
         kind,
         member,
@@ -125,13 +125,4 @@ pub(crate) fn put_detailed(
         file,
         detail,
     })
-}
-
-fn text_of(alloc: Global, bytes: &[u8]) -> Result<Text, NoMemory>
-    requires { IsText bytes.now }
-    ensures { IfOk result (λ text. text ≡ bytes.now) }
-{
-    let mut copy = Bytes::new(alloc);
-    copy.extend(bytes)?;
-    Ok(Text::of_printable(copy))
 }

@@ -503,11 +503,11 @@ impl<'i, R: Rule> Target<'i, R> {
         match news {
             News::Nothing => Ok(self.nothing_follows()),
             News::Block(payload) => {
-                self.take(disk, payload)?;
+                self.add_payload(disk, payload)?;
                 Ok(None)
             }
             News::Last(payload) => {
-                self.take(disk, payload)?;
+                self.add_payload(disk, payload)?;
                 self.turn(disk, None)
             }
             News::Done => self.turn(disk, None),
@@ -526,7 +526,7 @@ impl<'i, R: Rule> Target<'i, R> {
     }
 
     /// More of a file arrives. Of a data or support file it goes straight to the other bank.
-    fn take<K: Disk>(&mut self, disk: &mut K, payload: &[u8]) -> Result<(), Down>
+    fn add_payload<K: Disk>(&mut self, disk: &mut K, payload: &[u8]) -> Result<(), Down>
         requires running { IsRunning (K.state disk.old) }
         ensures takes { OnOk result (TargetKeeps self.old self.new
             (with_live self.old.view (continued self.old.view.live payload.now))) }

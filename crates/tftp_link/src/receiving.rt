@@ -142,7 +142,7 @@ impl Receiving {
         let is_next = self.is_next_block(block, payload);
         let is_again = self.is_last_block(block, payload);
         match self.phase {
-            Phase::Waiting | Phase::Running if is_next => self.take(block, payload),
+            Phase::Waiting | Phase::Running if is_next => self.take_block(block, payload),
             Phase::Running | Phase::Finished if is_again => Step::unawaited(true),
             _ => Step::unawaited(false),
         }
@@ -163,7 +163,7 @@ impl Receiving {
     }
 
     /// Takes the block after those taken.
-    fn take<'a>(&mut self, block: u16, payload: &'a [u8]) -> Step<'a>
+    fn take_block<'a>(&mut self, block: u16, payload: &'a [u8]) -> Step<'a>
         requires { block ≡ self.old.taken + 1 }
         ensures state { self.new ≡ receiver_moved self.old (taken_answer self.old payload.now) }
         ensures news { news_view result.news ≡ news_by (taken_answer self.old payload.now) }

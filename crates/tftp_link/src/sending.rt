@@ -162,13 +162,13 @@ impl<'f> Sending<'f> {
     {
         match self.phase {
             Phase::Waiting if block == 0 => self.send_next(self.size),
-            Phase::Running if block == self.sent => self.go_on(),
+            Phase::Running if block == self.sent => self.after_ack(),
             _ => Step::unawaited(false),
         }
     }
 
     /// What was sent last was acknowledged.
-    fn go_on<'a>(&mut self) -> Step<'a>
+    fn after_ack<'a>(&mut self) -> Step<'a>
         ensures state { self.new ≡ sender_moved self.old (awaited_answer self.old) }
         ensures news { news_view result.news ≡ news_by (awaited_answer self.old) }
         ensures send { result.send ≡ is_sent_by (awaited_answer self.old) }

@@ -377,7 +377,7 @@ impl<'f> TransferEnd<'f> {
             (Serves from (ServesRead name options (contents file.entry)) ∷ [])
             self.old self.new (datagram_view post ∷ [])) }
     {
-        self.accept(side, from, FileEnd::Sending(Sending::serve(file, options)))
+        self.open_from(side, from, FileEnd::Sending(Sending::serve(file, options)))
     }
 
     /// Takes a request to write.
@@ -393,11 +393,11 @@ impl<'f> TransferEnd<'f> {
             (Serves from (ServesWrite name options) ∷ [])
             self.old self.new (datagram_view post ∷ [])) }
     {
-        self.accept(side, from, FileEnd::Receiving(Receiving::serve(options)))
+        self.open_from(side, from, FileEnd::Receiving(Receiving::serve(options)))
     }
 
     /// A request from this port is taken, which marks the port.
-    fn accept(&mut self, side: Side, from: u16, end: FileEnd<'f>) -> Result<Datagram, NoMemory>
+    fn open_from(&mut self, side: Side, from: u16, end: FileEnd<'f>) -> Result<Datagram, NoMemory>
         requires { has_port self.old ≡ true }
         ensures { IfOk result (λ post. (datagram_view post
             ≡ datagram_of side self.old.next_port from (end_first (end_seen end.entry)))

@@ -204,7 +204,7 @@ impl<'m, R: Rule> Driver<'m, R> {
             ≡ numbered (posted_in self.now.steps) number) }
     {
         match self.posted(number) {
-            Some(datagram) => Ok(Some(copy_of(self.ends.alloc, datagram)?)),
+            Some(datagram) => Ok(Some(datagram.copy(self.ends.alloc)?)),
             None => Ok(None),
         }
     }
@@ -326,17 +326,4 @@ fn first_fault(fault: BootFault) -> DriveFault
         BootFault::Recover(fault) => DriveFault::NoConfig(fault),
         BootFault::Memory => DriveFault::Memory,
     }
-}
-
-fn copy_of(alloc: Global, datagram: &Datagram) -> Result<Datagram, NoMemory>
-    ensures { IfOk result (λ copy. datagram_view copy ≡ datagram_view datagram.now) }
-{
-    let mut bytes = Bytes::new(alloc);
-    bytes.extend(datagram.bytes.as_slice())?;
-    Ok(Datagram {
-        from_side: datagram.from_side,
-        from: datagram.from,
-        to: datagram.to,
-        bytes,
-    })
 }

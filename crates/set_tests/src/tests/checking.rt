@@ -51,14 +51,6 @@ fn word_of(fault: &OpenFault) -> &'static str {
     }
 }
 
-fn copy_of(alloc: Global, bytes: &[u8]) -> Result<Bytes, NoMemory>
-    ensures { IfOk result (λ copy. copy.items ≡ bytes.now) }
-{
-    let mut copy = Bytes::new(alloc);
-    copy.extend(bytes)?;
-    Ok(copy)
-}
-
 pub(super) fn placed(alloc: Global, name: Name, bytes: &[u8]) -> Result<Placed, NoMemory>
     requires { length bytes.now ≤ longest_file }
     ensures { IfOk result IsShortBody }
@@ -66,7 +58,7 @@ pub(super) fn placed(alloc: Global, name: Name, bytes: &[u8]) -> Result<Placed, 
     Ok(Placed {
         member: 1,
         name,
-        bytes: copy_of(alloc, bytes)?,
+        bytes: Bytes::copy_of(alloc, bytes)?,
     })
 }
 
@@ -117,7 +109,7 @@ fn a_set_is_opened_and_checked(rt: HostRuntime) -> Result<(), Fail> {
 }
 
 pub(super) fn list_of(alloc: Global, bytes: &[u8]) -> Result<List<Bytes>, NoMemory> {
-    let copy = copy_of(alloc, bytes)?;
+    let copy = Bytes::copy_of(alloc, bytes)?;
     let mut list = List::new(alloc);
     list.push(copy)?;
     Ok(list)

@@ -13,5 +13,5 @@ returns-in_ok-unit-in-Finishing-clause-some c = λ waits may_ask count.
     let link = c.self.inside in
     let lines = link.lines.items in
     let found = c.in_ok-unit-in-Finishing in
-    subst (λ (s : FleetLinkState). GivesInFleet s (link_with link.units lines c.give.new.self link.rest link.next) waits may_ask (At_unit found.unit (happening_view found.given))) c.self.view_is
-    (finish_gives link.units lines link.mail c.give.new.self link.rest link.next found.unit found.given waits may_ask (count ∙ ap (λ (s : FleetLinkState). s.units) (sym c.self.view_is)) c.self.invariant.posts (left_at_units link.units fleet_line_view link.next lines c.self.invariant.each) c.in-Finishing.is (found.ensures.value (length waits) (waits_in waits) may_ask) c.give.ensures)
+    subst (λ (s : FleetLinkState). GivesInFleet s (link_with link.units lines c.note_given.new.self link.rest link.next) waits may_ask (At_unit found.unit (happening_view found.given))) c.self.view_is
+    (finish_gives link.units lines link.mail c.note_given.new.self link.rest link.next found.unit found.given waits may_ask (count ∙ ap (λ (s : FleetLinkState). s.units) (sym c.self.view_is)) c.self.invariant.posts (left_at_units link.units fleet_line_view link.next lines c.self.invariant.each) c.in-Finishing.is (found.ensures.value (length waits) (waits_in waits) may_ask) c.note_given.ensures)

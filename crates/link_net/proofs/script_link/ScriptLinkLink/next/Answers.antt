@@ -11,5 +11,5 @@ returns-clause-ok c =
     let turn = c.in-Ok.turn in
     let later = c.in-Ok.next in
     let said = rw c.as_slice-lines.ensures at c.in-Ok.ensures.turn in
-    let gives = gives_turn lines before c.give.new.self c.self.inside.rest c.self.inside.next later turn c.args.loader_waits c.args.target_waits said c.give.ensures in
-    subst (λ (s : LinkState). LinkGives s (link_of lines c.give.new.self turn.rest later) (scene_of s c.args.loader_waits c.args.target_waits) (happening_view turn.given)) c.self.view_is gives
+    let gives = gives_turn lines before c.note_given.new.self c.self.inside.rest c.self.inside.next later turn c.args.loader_waits c.args.target_waits said c.note_given.ensures in
+    subst (λ (s : LinkState). LinkGives s (link_of lines c.note_given.new.self turn.rest later) (scene_of s c.args.loader_waits c.args.target_waits) (happening_view turn.given)) c.self.view_is gives

@@ -3,7 +3,7 @@ use Rattle.exchange_trace.specs.Happenings.{happening_view}
 use Rattle.link_net.specs.Mail.{MailView, NamesPosted, fates_after, given_in, logged}
 use Rattle.link_net.proofs.Fates.{next_of, one_given}
 use Rattle.link_net.proofs.Sides.{counts}
-use Rattle.link_net.proofs.mail.Mail.give.Goals as goal
+use Rattle.link_net.proofs.mail.Mail.note_given.Goals as goal
 
 pub invariant_of-self : goal.invariant_of-self
 invariant_of-self c =

@@ -8,12 +8,12 @@ use Rattle.link_net.specs.Mail.{NamesPosted}
 use Rattle.fleet_link.specs.declared.fleet_mail.Place.{Place}
 use Rattle.fleet_link.specs.FleetMail.{FleetMailView, given_at_units}
 use Rattle.fleet_link.proofs.FleetMails.{keeps_fleet_given, stays_placed}
-use Rattle.fleet_link.proofs.fleet_mail.FleetMail.give.Goals as goal
+use Rattle.fleet_link.proofs.fleet_mail.FleetMail.note_given.Goals as goal
 
 pub next_undelivered-self-inside-requires-clause-placed : goal.next_undelivered-self-inside-requires-clause-placed
 next_undelivered-self-inside-requires-clause-placed c = λ k place e.
     let before = c.self.inside in
-    stays_placed before.mails c.give_at.new.mails before.places.items before.least _ c.self.invariant c.args.unit (happening_view c.args.given.now) c.requires.0.0 c.give_at.ensures place
+    stays_placed before.mails c.note_given_at.new.mails before.places.items before.least _ c.self.invariant c.args.unit (happening_view c.args.given.now) c.requires.0.0 c.note_given_at.ensures place
     (c.self.invariant.placed k place (subst (λ (places : List Place). slice_get places k ≡ Some place) c.as_slice.ensures.value e))
 
 pub invariant_of-self : goal.invariant_of-self
@@ -27,7 +27,7 @@ invariant_of-self c =
     ∙ (ap reverse (map-append (λ entry. At_unit entry.1 (happening_view entry.0)) before.given.items ((c.args.given.now, c.args.unit) ∷ []))
     ∙ reverse-append (map (λ entry. At_unit entry.1 (happening_view entry.0)) before.given.items) (At_unit c.args.unit h ∷ [])) in
     rw given
-    (keeps_fleet_given before.mails c.give_at.new.mails before.places.items before.least _ c.self.invariant c.args.unit h c.requires.0.0 c.give_at.ensures c.next_undelivered-self-inside.result
+    (keeps_fleet_given before.mails c.note_given_at.new.mails before.places.items before.least _ c.self.invariant c.args.unit h c.requires.0.0 c.note_given_at.ensures c.next_undelivered-self-inside.result
     (subst (λ (mail : FleetMailView). NamesPosted (length (posts_of_unit c.args.unit mail.posted)) h) (sym c.self.view_is) c.requires.1)
     (subst (λ (places : List Place). c.next_undelivered-self-inside.result ≤ length places) value found.within)
     (λ k p from lt e. found.passed k p from lt (subst (λ (places : List Place). slice_get places k ≡ Some p) (sym value) e))

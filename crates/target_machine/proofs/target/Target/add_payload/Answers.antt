@@ -5,7 +5,7 @@ use Rattle.target_machine.specs.Machine.{session_seen}
 use Rattle.target_machine.proofs.Bringing.{take_live}
 use Rattle.target_machine.proofs.Holding.{fails_so}
 use Rattle.target_machine.proofs.Turning.{still_installed}
-use Rattle.target_machine.proofs.target.Target.take.Goals as goal
+use Rattle.target_machine.proofs.target.Target.add_payload.Goals as goal
 
 pub invariant_of-self-inside-in-Err : goal.invariant_of-self-inside-in-Err
 invariant_of-self-inside-in-Err g c =

@@ -7,7 +7,7 @@ use Rattle.transfer_end.specs.Moves.{Serves}
 use Rattle.exchange_trace.specs.declared.trace.Side.TheVariants as sides
 use Rattle.transfer_end.specs.Transfers.{ServesRead}
 use Rattle.loader_machine.proofs.Serving.{makes_so, not_taken, reads, refuses, serves}
-use Rattle.loader_machine.proofs.loader.Loader.give.Goals as goal
+use Rattle.loader_machine.proofs.loader.Loader.serve_file.Goals as goal
 
 pub returns-in_default : goal.returns-in_default
 returns-in_default c = λ x live.

@@ -1,7 +1,7 @@
 use Rattle.transfer_end.specs.Calls.{posts_view}
 use Rattle.transfer_end.specs.Transfers.{ServesWrite}
 use Rattle.loader_machine.proofs.Serving.{makes_so, not_taken, serves, writes}
-use Rattle.loader_machine.proofs.loader.Loader.accept.Goals as goal
+use Rattle.loader_machine.proofs.loader.Loader.receive_file.Goals as goal
 
 pub returns-then-not-branch : goal.returns-then-not-branch
 returns-then-not-branch c = λ x live.
