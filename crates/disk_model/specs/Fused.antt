@@ -93,6 +93,12 @@ pub record KeepsArmings {K : Type 0} (old new : FusedOf K) : Type 0 where
   pub calls : new.calls ≡ old.calls
   pub pick : new.pick ≡ old.pick
 
+-- power was lost once more, as far as the count goes
+pub record RoseOnce (before now : ℕ) : Type 0 where
+  pub rose : Rose before now
+  pub later : before ≤ now
+  pub once : now ≤ before + 1
+
 -- these stay, and power wasn't lost
 pub record KeepsLosses {K : Type 0} (old new : FusedOf K) : Type 0 where
   pub losses : new.losses ≡ old.losses

@@ -42,16 +42,24 @@ pub record IsUnchanged (old new : MemDisk) : Type 0 where
   pub contents : disk_bytes new ≡ disk_bytes old
   pub notes : notes_of new ≡ notes_of old
 
--- A sync or a restart: it holds what it held, and a note came, but where it was out of memory.
+-- A read: the call is counted, and nothing changes.
+pub record CountsRead (old new : MemDisk) (result : Result Unit DiskFault) : Type 0 where
+  pub counts : CountsDiskCall old new result
+  pub unchanged : IsUnchanged old new
+
+-- A sync or a restart: the call is counted, and it holds what it held. A note came, but where it was out of memory.
 pub record NotesCall (call : Call) (old new : MemDisk) (result : Result Unit DiskFault) : Type 0 where
+  pub counts : CountsDiskCall old new result
   pub first : first_of new ≡ first_of old
   pub contents : disk_bytes new ≡ disk_bytes old
   pub done : OnOk result (notes_of new ≡ notes_of old ++ record { call = call; done = true } ∷ [])
   pub failed : IsErrOf result Failed → notes_of new ≡ notes_of old ++ record { call = call; done = false } ∷ []
   pub refused : IsErrOf result Memory → notes_of new ≡ notes_of old
 
--- A write: where it is refused, it holds what it held. A note came, but where it was out of memory.
+-- A write: the call is counted, and where it is refused, it holds what it held. A note came, but where it was out of
+-- memory.
 pub record NotesWrite (at : ℕ) (bytes : List ℕ) (old new : MemDisk) (result : Result Unit DiskFault) : Type 0 where
+  pub counts : CountsDiskCall old new result
   pub first : first_of new ≡ first_of old
   pub contents : OnErr result (disk_bytes new ≡ disk_bytes old)
   pub done : OnOk result (AddsWrite (notes_of old) (notes_of new) at bytes true)

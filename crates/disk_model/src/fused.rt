@@ -69,7 +69,7 @@ impl<K: Disk + Drop> Model for Fused<K> {
 }
 
 impl<K: Disk + Drop> Fused<K> {
-    ghost use Rattle.disk_model.specs.Fused.{state_of, WritesRange};
+    ghost use Rattle.disk_model.specs.Fused.{state_of, RoseOnce, WritesRange};
 
     /// No range is unsynced, and no power loss armed.
     pub fn new(inner: K) -> Fused<K>
@@ -228,9 +228,7 @@ impl<K: Disk + Drop> Fused<K> {
         requires running { (K.state self.old.inner).stopped ≡ false }
         ensures inner { self.new.inner ≡ self.old.inner }
         ensures stopped { self.new.stopped ≡ true }
-        ensures rose { Rose self.old.losses self.new.losses }
-        ensures once { self.new.losses ≤ self.old.losses + 1 }
-        ensures later { self.old.losses ≤ self.new.losses }
+        ensures losses { RoseOnce self.old.losses self.new.losses }
         ensures keeps { KeepsArmings self.old self.new }
         ensures left { self.new.left ≡ self.old.left }
         ensures failed { result ≡ Err Failed }

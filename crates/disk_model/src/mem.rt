@@ -37,7 +37,7 @@ pub struct MemDisk {
 
 impl MemDisk {
     ghost use Rattle.disk_model.specs.MemDisk.{disk_bytes, first_of, notes_of, calls_of, state_of};
-    ghost use Rattle.disk_model.specs.MemDisk.{CountsDiskCall, IsUnchanged, NotesCall};
+    ghost use Rattle.disk_model.specs.MemDisk.{IsUnchanged, NotesCall};
 
     /// A disk with these bytes from offset 0 on, that has not failed.
     pub fn new(alloc: Global, bytes: &[u8]) -> Result<MemDisk, NoMemory>
@@ -123,7 +123,6 @@ impl MemDisk {
     /// Keeps a note of a sync or a restart, and lets it fail where that is set.
     fn settle(&mut self, call: Call) -> Result<(), DiskFault>
         requires { IsSettling call }
-        ensures counts { CountsDiskCall self.old self.new result }
         ensures notes { NotesCall call self.old self.new result }
         ensures settled { OnOk result (IsSettled (state_of self.new)) }
         ensures elapses { Elapses (state_of self.old) (state_of self.new)
@@ -146,8 +145,7 @@ impl MemDisk {
 }
 
 impl Disk for MemDisk {
-    ghost use Rattle.disk_model.specs.MemDisk.{state_of, CountsDiskCall, IsUnchanged, NotesCall};
-    ghost use Rattle.disk_model.specs.MemDisk.{NotesWrite};
+    ghost use Rattle.disk_model.specs.MemDisk.{state_of, CountsRead, NotesCall, NotesWrite};
 
     ghost state = { state_of };
 
@@ -164,8 +162,7 @@ impl Disk for MemDisk {
     fn read(&mut self, at: u32, buf: &mut [u8]) -> Result<(), DiskFault>
         requires running { (state_of self.old).stopped ≡ false }
         requires within { at + length buf.old ≤ SIZE }
-        ensures counts { CountsDiskCall self.old self.new result }
-        ensures unchanged { IsUnchanged self.old self.new }
+        ensures counts { CountsRead self.old self.new result }
         ensures bytes { OnOk result (ForSome (state_of self.old).reads
             (λ image. buf.new ≡ range image at (length buf.old))) }
         ensures kept { OnOk result ((state_of self.new).reads ≡ (state_of self.old).reads) }
@@ -184,7 +181,6 @@ impl Disk for MemDisk {
     fn write(&mut self, at: u32, bytes: &[u8]) -> Result<(), DiskFault>
         requires running { (state_of self.old).stopped ≡ false }
         requires within { at + length bytes.now ≤ SIZE }
-        ensures counts { CountsDiskCall self.old self.new result }
         ensures notes { NotesWrite at bytes.now self.old self.new result }
         ensures bytes { OnOk result (ForSome (state_of self.old).reads
             (λ image. (state_of self.new).reads ≡ Some (overlay image at bytes.now))) }
@@ -209,7 +205,6 @@ impl Disk for MemDisk {
 
     fn sync(&mut self) -> Result<(), DiskFault>
         requires running { (state_of self.old).stopped ≡ false }
-        ensures counts { CountsDiskCall self.old self.new result }
         ensures notes { NotesCall Call.Sync self.old self.new result }
         ensures kept { OnOk result ((state_of self.new).reads ≡ (state_of self.old).reads) }
         ensures settled { OnOk result (IsSettled (state_of self.new)) }
@@ -221,7 +216,6 @@ impl Disk for MemDisk {
     }
 
     fn restart(&mut self) -> Result<(), DiskFault>
-        ensures counts { CountsDiskCall self.old self.new result }
         ensures notes { NotesCall Call.Restart self.old self.new result }
         ensures settled { OnOk result (IsSettled (state_of self.new)) }
         ensures elapses { Elapses (state_of self.old) (state_of self.new)

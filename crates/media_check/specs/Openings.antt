@@ -4,7 +4,7 @@ use Rattle.std.specs.List.{sum_by}
 use Rattle.load_base.specs.Counts.{Rose}
 use Rattle.load_base.specs.Host.{Files, longest_file}
 use Rattle.field_grammar.specs.Grammar.{Grammar}
-use Rattle.media_check.specs.Kept.{contents}
+use Rattle.media_check.specs.Kept.{IsShortFile, contents}
 use Rattle.media_check.specs.Sets.{MemberView, SetView, found_in, found_view, lists_in, file_in, files_view, set_with, set_in, set_view}
 use Rattle.media_lists.specs.declared.lists.ListedFile.{ListedFile}
 use Rattle.media_check.specs.HostNames.{host_media, listed_name, ReadingOrder, further_reading, whole_reading}
@@ -17,6 +17,11 @@ use Rattle.media_check.specs.declared.set.MediaSet.{MediaSet}
 -- the most bytes of the listed files of a set, together
 abbrev pub largest_set : ℕ
 largest_set = 268435456
+
+-- Of the files that are kept none is too long, and they have so many bytes together, which aren't too many for a set.
+pub record AreKeptInRange (files : List KeptFile) (total : ℕ) : Type 0 where
+  pub short : All IsShortFile files
+  pub together : total ≤ largest_set
 
 -- how many bytes the host has under this name
 abbrev pub length_on_host : Files → List ℕ → ℕ

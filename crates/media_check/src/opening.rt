@@ -14,7 +14,7 @@ ghost use Rattle.media_check.specs.HostNames.{loads_name, files_name, batches_na
 ghost use Rattle.media_check.specs.HostNames.{host_media, list_names};
 ghost use Rattle.media_check.specs.Kept.{bytes_view, IsShortFile, contents};
 ghost use Rattle.media_check.specs.Openings.{Opens, OpensRest, ReadsNames, ReadsList, KeepsNext};
-ghost use Rattle.media_check.specs.Openings.{KeepsListed, HasOpenCause, largest_set};
+ghost use Rattle.media_check.specs.Openings.{AreKeptInRange, KeepsListed, HasOpenCause};
 ghost use Rattle.media_check.specs.Sets.{found_view, lists_view, lists_in, further_members};
 ghost use Rattle.media_check.specs.Sets.{entries_of, IsFoundFiles};
 
@@ -267,13 +267,11 @@ fn keep_next<H: Host>(
     total: usize,
 ) -> Result<usize, OpenFault>
     requires new { get same_bytes kept.old entry.now.name ≡ None }
-    requires small { total ≤ largest_set }
-    requires short { All IsShortFile (values kept.old) }
+    requires in_range { AreKeptInRange (values kept.old) total }
     ensures keeps { ForSome (H.files host.old)
         (KeepsNext folder.now entry.now total kept.old.entries kept.new.entries result) }
     ensures keys { OnOk result (keys kept.new ≡ keys kept.old ++ entry.now.name ∷ []) }
-    ensures small { IfOk result (λ sum. sum ≤ largest_set) }
-    ensures short { OnOk result (All IsShortFile (values kept.new)) }
+    ensures in_range { IfOk result (λ sum. AreKeptInRange (values kept.new) sum) }
     ensures cause { HasOpenCause (H.faults host.old) (H.faults host.new) result }
     ensures kept { H.files host.new ≡ H.files host.old }
 {

@@ -34,8 +34,8 @@ loop-entry-preserved g c =
     record {
       files = c.in_ok-total.ensures.kept ∙ c.loop-entry.invariant.files;
       same = omega (arith, c.loop-entry.invariant.same, c.in_ok-total.ensures.cause.ok);
-      small = c.in_ok-total.ensures.small;
-      short = c.in_ok-total.ensures.short;
+      small = c.in_ok-total.ensures.in_range.together;
+      short = c.in_ok-total.ensures.in_range.short;
       names =
           c.in_ok-total.ensures.keys ∙ ap (λ (l : List (List ℕ)). l ++ entry.name ∷ []) c.loop-entry.invariant.names
           ∙ sym (mapped_more file_name entries i entry c.loop-entry-test.true c.entry-item.is);
