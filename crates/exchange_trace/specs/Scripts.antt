@@ -1,8 +1,5 @@
 -- What a text says as a script (docs/FORMATS.md, "Script").
-use Rattle.std.specs.Prelude.{ℕ, ◌+◌, suc, List, [], ◌∷◌, length, codes, slice_index, Bool, true, not, ◌==◌, nat_lt, nat_le, ◌&&◌, ◌||◌, Option, Some, None, is_none, Result, Ok, Err, if◌then◌else◌}
-use Rattle.std.specs.Char.{is_ascii_digit}
-use Rattle.std.specs.List.{join_with_byte, list_all, slice_split}
-use Rattle.std.specs.Str.Parse.{digits_value}
+use Rattle.std.specs.Prelude.{ℕ, suc, List, [], ◌∷◌, length, codes, nat_lt, nat_le, ◌&&◌, Option, Some, None, is_none, Result, Ok, Err, if◌then◌else◌}
 use Rattle.hex.specs.Hex.{decode_of}
 use Rattle.hex.specs.declared.error.FromHexError.{FromHexError}
 use Rattle.load_base.specs.Bytes.{same_bytes}
@@ -12,33 +9,8 @@ use Rattle.exchange_trace.specs.declared.fault.ScriptFault.TheVariants.{Word, Nu
 use Rattle.exchange_trace.specs.declared.trace.Side.{Side}
 use Rattle.exchange_trace.specs.declared.trace.Side.TheVariants as sides
 use Rattle.exchange_trace.specs.Happenings.{other}
+use Rattle.text_words.specs.Words.{WrittenLine, written_lines, decimal_between}
 use Rattle.exchange_trace.specs.Lines.{Line, Info, Upload, Give, Lose, Next, Tick, Inject, Power, Boot, Blksize, Finish}
-
--- ---- lines and words
-
--- these lines with a line feed between two
-abbrev pub lines : List (List ℕ) → List ℕ
-lines texts = join_with_byte 10 texts
-
--- a line that is empty or begins with `#`
-abbrev pub is_passed_over : List ℕ → Bool
-is_passed_over [] = true
-is_passed_over (byte ∷ bytes) = byte == 35
-
--- a line that isn't passed over: its number, from 1, and its words, which stand one space apart
-pub record WrittenLine : Type 0 where
-  pub number : ℕ
-  pub words : List (List ℕ)
-
-abbrev pub written_from : ℕ → List (List ℕ) → List WrittenLine
-written_from number [] = []
-written_from number (line ∷ lines) =
-    if is_passed_over line then written_from (number + 1) lines
-    else record { number = number; words = slice_split (λ byte. byte == 32) line } ∷ written_from (number + 1) lines
-
--- the lines of a text; each is ended by a line feed, which the last may lack
-unfoldable pub written_lines : List ℕ → List WrittenLine
-written_lines text = written_from 1 (slice_split (λ byte. byte == 10) text)
 
 -- ---- words
 
@@ -52,17 +24,6 @@ Err fault >>= next = Err fault
 abbrev pub required : {A : Type 0} → ScriptFault → Option A → Result A ScriptFault
 required fault (Some a) = Ok a
 required fault None = Err fault
-
--- decimal digits without a sign and without a leading zero
-abbrev pub is_decimal : List ℕ → Bool
-is_decimal word = list_all is_ascii_digit word && (nat_lt 0 (length word) && ((length word == 1) || not (slice_index word 0 == 48)))
-
--- the number that a word writes, where it is in the range
-unfoldable pub decimal_between : (low high : ℕ) → List ℕ → Option ℕ
-decimal_between low high word = if is_decimal word then within (digits_value 10 word) else None
-  where
-    within : ℕ → Option ℕ
-    within n = if nat_le low n && nat_le n high then Some n else None
 
 abbrev pub number_word : (line low high : ℕ) → List ℕ → Result ℕ ScriptFault
 number_word line low high word = required (Number line) (decimal_between low high word)

@@ -14,7 +14,8 @@ ghost use Rattle.exchange_trace.specs.Lines.{Boot, Blksize, Finish};
 ghost use Rattle.exchange_trace.specs.Posts.{AllHonest, IsAboveOwnPorts, IsHonest, IsUndelivered};
 ghost use Rattle.exchange_trace.specs.Posts.{NamesOnlyPosted, first_port_after, is_undelivered};
 ghost use Rattle.exchange_trace.specs.Posts.{posted_in, undelivered};
-ghost use Rattle.exchange_trace.specs.Scripts.{lines, script_said};
+ghost use Rattle.exchange_trace.specs.Scripts.{script_said};
+ghost use Rattle.text_words.specs.Words.{lines};
 ghost use Rattle.exchange_trace.specs.Steps.{Step};
 
 /// Which datagrams are undelivered, and how that changes. `proofs/PostLemmas.antt` says the same to

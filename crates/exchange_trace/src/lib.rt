@@ -4,10 +4,8 @@
 
 mod fault;
 pub mod laws;
-mod number;
 mod printing;
 mod trace;
 
 pub use fault::ScriptFault;
-pub use number::decimal_in;
 pub use trace::{Datagram, Happening, Side, TraceStep};

@@ -1,10 +1,11 @@
 -- What the lines that are left of a fleet's script say, line by line.
 use Rattle.std.proofs.Common.{◌≡◌, ◌⊎◌, ⊎_elim, inl, inr, if◌then◌else◌, ℕ, ◌+◌, ◌==◌, Bool, true, false, List, [], ◌∷◌, Option, Some, Result, Ok, Err, refl, ap, ◌∙◌}
 use Rattle.std.specs.List.{slice_split}
-use Rattle.exchange_trace.specs.Scripts.{◌>>=◌, WrittenLine, is_passed_over, written_from}
+use Rattle.exchange_trace.specs.Scripts.{◌>>=◌}
+use Rattle.text_words.specs.Words.{pieces_left, WrittenLine, is_passed_over, written_from}
 use Rattle.exchange_trace.specs.declared.fault.ScriptFault.{ScriptFault}
 use Rattle.exchange_trace.specs.declared.fault.ScriptFault.TheVariants.{Memory}
-use Rattle.link_net.specs.Reading.{and_later, parts_of}
+use Rattle.link_net.specs.Reading.{and_later}
 use Rattle.fleet_trace.specs.FleetLines.{FleetLine}
 use Rattle.fleet_trace.specs.FleetScripts.{fleet_lines_said, fleet_words_said}
 use Rattle.fleet_link.specs.Reading.{FleetSaid, and_fleet_said, before_later, fleet_lines_left}
@@ -25,10 +26,10 @@ first_said units true written later = refl
 first_said units false written later = in_order (fleet_words_said written.number units written.words) (fleet_lines_said units later)
 
 -- what is left of the text is what its first line says, and then the others
-pub said_line_by_line : (number units : ℕ) (text first : List ℕ) (rest : Option (List ℕ)) → slice_split (λ byte. byte == 10) text ≡ first ∷ parts_of 10 rest
+pub said_line_by_line : (number units : ℕ) (text first : List ℕ) (rest : Option (List ℕ)) → slice_split (λ byte. byte == 10) text ≡ first ∷ pieces_left 10 rest
     → fleet_lines_left number units (Some text) ≡ and_fleet_said number units first (fleet_lines_left (number + 1) units rest)
 said_line_by_line number units text first rest parts =
-    rw parts (first_said units (is_passed_over first) (record { number = number; words = slice_split (λ byte. byte == 32) first }) (written_from (number + 1) (parts_of 10 rest)))
+    rw parts (first_said units (is_passed_over first) (record { number = number; words = slice_split (λ byte. byte == 32) first }) (written_from (number + 1) (pieces_left 10 rest)))
 
 -- all lines before this one say something: its fault is that of the text
 pub first_fault : (fault : ScriptFault) (whole later : FleetSaid) (before : List FleetLine) (number units : ℕ) (text : List ℕ)

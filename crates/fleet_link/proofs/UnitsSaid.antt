@@ -5,7 +5,8 @@ use Rattle.std.specs.Str.Parse.{digits_value}
 use Rattle.std.proofs.lemmas.Bool.{leb-true}
 use Rattle.load_base.specs.Bytes.{same_bytes}
 use Rattle.exchange_trace.specs.Lines.{Line}
-use Rattle.exchange_trace.specs.Scripts.{◌>>=◌, Keyword, WrittenLine, count_word, decimal_between, found_in, is_decimal, keywords, line_said, part_word, required, info, upload, give, lose, next, tick, inject, power, boot, blksize, finish}
+use Rattle.exchange_trace.specs.Scripts.{◌>>=◌, Keyword, count_word, found_in, keywords, line_said, part_word, required, info, upload, give, lose, next, tick, inject, power, boot, blksize, finish}
+use Rattle.text_words.specs.Words.{WrittenLine, decimal_between, is_decimal}
 use Rattle.exchange_trace.specs.declared.fault.ScriptFault.{ScriptFault}
 use Rattle.exchange_trace.specs.declared.fault.ScriptFault.TheVariants.{Unit, Word}
 use Rattle.fleet_trace.specs.FleetLines.{FleetLine, Ask_next, Begin_batch, Finish_all, Finish_batch, Give_numbered, Line_at, Lose_numbered, Next_of_all}

@@ -4,7 +4,8 @@ use Rattle.std.proofs.lemmas.List.Splits.{length-slice_split}
 use Rattle.exchange_trace.specs.Scripts.{◌>>=◌, give, lose, next, finish, part_word}
 use Rattle.exchange_trace.specs.declared.fault.ScriptFault.{ScriptFault}
 use Rattle.exchange_trace.specs.declared.fault.ScriptFault.TheVariants.{Word}
-use Rattle.link_net.specs.Reading.{count_of, only_word, words_of}
+use Rattle.text_words.specs.Words.{one_of}
+use Rattle.link_net.specs.Reading.{count_of, words_of}
 use Rattle.fleet_trace.specs.FleetLines.{FleetLine, Begin_batch, Give_numbered, Lose_numbered, Next_of_all}
 use Rattle.fleet_trace.specs.FleetScripts.{alone_said, batch_said, fleet_line_said}
 
@@ -29,7 +30,7 @@ abbrev the_part : (line : ℕ) → Option (List ℕ) → Result (List ℕ) Scrip
 the_part line None = Err (Word line)
 the_part line (Some word) = part_word line word
 
-pub batch_words : (line : ℕ) (words : List (List ℕ)) → batch_said line words ≡ (the_part line (only_word words) >>= λ part. Ok (Begin_batch part))
+pub batch_words : (line : ℕ) (words : List (List ℕ)) → batch_said line words ≡ (the_part line (one_of words) >>= λ part. Ok (Begin_batch part))
 batch_words line [] = refl
 batch_words line (word ∷ []) = refl
 batch_words line (first ∷ second ∷ words) = refl
@@ -38,17 +39,17 @@ batch_words line (first ∷ second ∷ words) = refl
 abbrev numbered_line : (ℕ → FleetLine) → Result ℕ ScriptFault → Result FleetLine ScriptFault
 numbered_line says number = number >>= λ n. Ok (says n)
 
-pub give_number : (line : ℕ) (words : List (List ℕ)) → fleet_line_said line (Some give) words ≡ numbered_line Give_numbered (count_of line (only_word words))
+pub give_number : (line : ℕ) (words : List (List ℕ)) → fleet_line_said line (Some give) words ≡ numbered_line Give_numbered (count_of line (one_of words))
 give_number line [] = refl
 give_number line (word ∷ []) = refl
 give_number line (first ∷ second ∷ words) = refl
 
-pub lose_number : (line : ℕ) (words : List (List ℕ)) → fleet_line_said line (Some lose) words ≡ numbered_line Lose_numbered (count_of line (only_word words))
+pub lose_number : (line : ℕ) (words : List (List ℕ)) → fleet_line_said line (Some lose) words ≡ numbered_line Lose_numbered (count_of line (one_of words))
 lose_number line [] = refl
 lose_number line (word ∷ []) = refl
 lose_number line (first ∷ second ∷ words) = refl
 
-pub next_number : (line : ℕ) (words : List (List ℕ)) → fleet_line_said line (Some next) words ≡ numbered_line Next_of_all (count_of line (only_word words))
+pub next_number : (line : ℕ) (words : List (List ℕ)) → fleet_line_said line (Some next) words ≡ numbered_line Next_of_all (count_of line (one_of words))
 next_number line [] = refl
 next_number line (word ∷ []) = refl
 next_number line (first ∷ second ∷ words) = refl

@@ -1,9 +1,9 @@
 -- How a fleet's script is read, line by line (docs/FORMATS.md, "Script of a fleet").
 use Rattle.std.specs.Prelude.{ℕ, List, [], ◌∷◌, Option, Result, Ok, Err, ◌==◌, if◌then◌else◌}
 use Rattle.std.specs.List.{slice_split}
-use Rattle.exchange_trace.specs.Scripts.{is_passed_over, written_from}
+use Rattle.text_words.specs.Words.{pieces_left, is_passed_over, written_from}
 use Rattle.exchange_trace.specs.declared.fault.ScriptFault.{ScriptFault}
-use Rattle.link_net.specs.Reading.{and_later, parts_of}
+use Rattle.link_net.specs.Reading.{and_later}
 use Rattle.fleet_trace.specs.FleetLines.{FleetLine}
 use Rattle.fleet_trace.specs.FleetScripts.{fleet_lines_said, fleet_words_said}
 
@@ -24,4 +24,4 @@ and_fleet_said number units text later =
 
 -- what lines from this one on say, where this is left of the text
 abbrev pub fleet_lines_left : (number units : ℕ) → Option (List ℕ) → FleetSaid
-fleet_lines_left number units text = fleet_lines_said units (written_from number (parts_of 10 text))
+fleet_lines_left number units text = fleet_lines_said units (written_from number (pieces_left 10 text))

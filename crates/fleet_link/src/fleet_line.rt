@@ -10,12 +10,13 @@ ghost use Rattle.fleet_trace.specs.FleetLines.{Ask_next, Finish_batch};
 ghost use Rattle.fleet_trace.specs.FleetScripts as scripts;
 ghost use Rattle.fleet_link.specs.Lines.{fleet_line_view};
 
-use exchange_trace::{ScriptFault, decimal_in};
+use exchange_trace::ScriptFault;
 use link_net::line::{Keyword, Line, count_of, keyword_of, line_of};
 use link_net::values::part_in;
-use link_net::words::{cut, only_word_in, word_count};
+use link_net::words::{only_word_in, word_count};
 use load_base::PartText;
 use std::alloc::Global;
+use text_words::{cut, decimal_in};
 
 /// What a line says (docs/FORMATS.md, "Script of a fleet").
 #[derive(Drop)]

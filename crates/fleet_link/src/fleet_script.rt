@@ -1,6 +1,6 @@
 //! Scripts of fleets as they are read.
 ghost use Rattle.std.specs.Prelude.{◌≡◌, ◌⊎◌, ◌≤◌, length, Ok, Err, IsOk, IsErr, IfOk, IfErr, OnOk};
-ghost use Rattle.exchange_trace.specs.Scripts.{written_lines};
+ghost use Rattle.text_words.specs.Words.{written_lines};
 ghost use Rattle.exchange_trace.specs.declared.fault.ScriptFault.TheVariants.{Memory};
 ghost use Rattle.fleet_trace.specs.FleetScripts.{fleet_lines_said, fleet_script_said};
 ghost use Rattle.link_net.specs.Reading.{and_later};
@@ -9,11 +9,10 @@ ghost use Rattle.fleet_link.specs.Reading.{FleetSaid, and_fleet_said};
 
 use crate::fleet_line::{FleetLine, read_fleet_line};
 use exchange_trace::ScriptFault;
-use link_net::line::is_passed_over;
-use link_net::words::cut;
 use load_base::List;
 use std::alloc::Global;
 use std::marker::Model;
+use text_words::{cut, is_passed_over};
 
 /// The most bytes that a script has.
 const LONGEST_SCRIPT: usize = 1_000_000;

@@ -2,7 +2,7 @@
 //! nothing; its clauses are the law.
 ghost use Rattle.std.specs.Prelude.{◌≡◌, ◌∷◌, [], ℕ, Bool, List, codes, Ok, Err, false, true};
 ghost use Rattle.exchange_trace.specs.Lines as lines;
-ghost use Rattle.exchange_trace.specs.Scripts.{lines as written};
+ghost use Rattle.text_words.specs.Words.{lines as written};
 ghost use Rattle.exchange_trace.specs.declared.fault.ScriptFault.TheVariants as faults;
 ghost use Rattle.exchange_trace.specs.declared.trace.Side.TheVariants as sides;
 ghost use Rattle.fleet_trace.specs.FleetFollowing.{FleetAsking, FleetWaiting, FollowsFleet};

@@ -1,7 +1,8 @@
 -- What a text says as a script of a fleet (docs/FORMATS.md, "Script of a fleet").
 use Rattle.std.specs.Prelude.{ℕ, List, [], ◌∷◌, length, codes, Bool, false, ◌==◌, nat_lt, nat_le, ◌&&◌, Option, Some, None, Result, Ok, Err, if◌then◌else◌}
 use Rattle.load_base.specs.Bytes.{same_bytes}
-use Rattle.exchange_trace.specs.Scripts.{◌>>=◌, Keyword, WrittenLine, count_word, decimal_between, found_in, keywords, line_said, part_word, required, written_lines, info, upload, give, lose, next, tick, inject, power, boot, blksize, finish}
+use Rattle.exchange_trace.specs.Scripts.{◌>>=◌, Keyword, count_word, found_in, keywords, line_said, part_word, required, info, upload, give, lose, next, tick, inject, power, boot, blksize, finish}
+use Rattle.text_words.specs.Words.{WrittenLine, decimal_between, written_lines}
 use Rattle.exchange_trace.specs.declared.fault.ScriptFault.{ScriptFault}
 use Rattle.exchange_trace.specs.declared.fault.ScriptFault.TheVariants.{Word, TooLong, Unit}
 use Rattle.fleet_trace.specs.FleetLines.{FleetLine, Line_at, Give_numbered, Lose_numbered, Next_of_all, Finish_all, Begin_batch, Ask_next, Finish_batch}

@@ -6,7 +6,8 @@ use Rattle.load_base.specs.Bytes.{same_bytes}
 use Rattle.load_base.specs.Verdicts.{ident_fault_of, part_text_fault_of}
 use Rattle.exchange_trace.specs.Happenings.{other}
 use Rattle.exchange_trace.specs.Lines.{Info, Upload, Give, Lose, Next, Tick, Inject, Power, Boot, Blksize, Finish}
-use Rattle.exchange_trace.specs.Scripts.{◌>>=◌, Keyword, WrittenLine, bytes_word, by_keyword, count_word, decimal_between, found_in, ident_word, keywords, line_said, lines_said, number_word, part_word, part_words, port_word, required, side_word, size_word, upload_said, words_said, info, upload, give, lose, next, tick, inject, power, boot, blksize, finish}
+use Rattle.exchange_trace.specs.Scripts.{◌>>=◌, Keyword, bytes_word, by_keyword, count_word, found_in, ident_word, keywords, line_said, lines_said, number_word, part_word, part_words, port_word, required, side_word, size_word, upload_said, words_said, info, upload, give, lose, next, tick, inject, power, boot, blksize, finish}
+use Rattle.text_words.specs.Words.{WrittenLine, decimal_between}
 use Rattle.exchange_trace.specs.declared.fault.ScriptFault.{ScriptFault}
 use Rattle.exchange_trace.specs.declared.fault.ScriptFault.TheVariants.{Word, Number, Hex, Name, Unit, Memory}
 

@@ -2,10 +2,11 @@
 use Rattle.std.proofs.Common.{◌≡◌, ◌⊎◌, ⊎_elim, inl, inr, if◌then◌else◌, ℕ, ◌+◌, ◌==◌, Bool, true, false, List, [], ◌∷◌, Option, Some, Result, Ok, Err, refl, ap, ◌∙◌}
 use Rattle.std.specs.List.{slice_split}
 use Rattle.exchange_trace.specs.Lines as spec
-use Rattle.exchange_trace.specs.Scripts.{WrittenLine, is_passed_over, lines_said, words_said, written_from}
+use Rattle.exchange_trace.specs.Scripts.{lines_said, words_said}
+use Rattle.text_words.specs.Words.{pieces_left, WrittenLine, is_passed_over, written_from}
 use Rattle.exchange_trace.specs.declared.fault.ScriptFault.{ScriptFault}
 use Rattle.exchange_trace.specs.declared.fault.ScriptFault.TheVariants.{Memory}
-use Rattle.link_net.specs.Reading.{Said, and_later, and_said, line_then, lines_left, parts_of}
+use Rattle.link_net.specs.Reading.{Said, and_later, and_said, line_then, lines_left}
 
 pub from_start : (said : Said) → said ≡ and_later [] said
 from_start (Ok lines) = refl
@@ -29,10 +30,10 @@ one_line true written later = refl
 one_line false written later = both (words_said written.number written.words) (lines_said later)
 
 -- what the lines that are left say is what the first of them says, and then the others
-pub lines_cut : (number : ℕ) (text first : List ℕ) (rest : Option (List ℕ)) → slice_split (λ byte. byte == 10) text ≡ first ∷ parts_of 10 rest
+pub lines_cut : (number : ℕ) (text first : List ℕ) (rest : Option (List ℕ)) → slice_split (λ byte. byte == 10) text ≡ first ∷ pieces_left 10 rest
     → lines_left number (Some text) ≡ and_said number first (lines_left (number + 1) rest)
 lines_cut number text first rest cut =
-    rw cut (one_line (is_passed_over first) (record { number = number; words = slice_split (λ byte. byte == 32) first }) (written_from (number + 1) (parts_of 10 rest)))
+    rw cut (one_line (is_passed_over first) (record { number = number; words = slice_split (λ byte. byte == 32) first }) (written_from (number + 1) (pieces_left 10 rest)))
 
 -- a fault of a line is that of the text, where all lines before it say something
 pub wrong_line : (fault : ScriptFault) (whole later : Said) (before : List spec.Line) (number : ℕ) (text : List ℕ)

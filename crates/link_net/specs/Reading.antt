@@ -1,6 +1,7 @@
 -- How a script is read, line by line and word by word (docs/FORMATS.md, "Script").
 use Rattle.std.specs.Prelude.{ℕ, List, [], ◌∷◌, ◌++◌, length, ◌==◌, nat_le, Option, Some, None, Result, Ok, Err, if◌then◌else◌}
 use Rattle.std.specs.List.{slice_split}
+use Rattle.text_words.specs.Words.{is_passed_over, pieces_left, written_from}
 use Rattle.exchange_trace.specs.Lines as spec
 use Rattle.exchange_trace.specs.Scripts as scripts
 use Rattle.exchange_trace.specs.declared.fault.ScriptFault.{ScriptFault}
@@ -8,31 +9,13 @@ use Rattle.exchange_trace.specs.declared.fault.ScriptFault.TheVariants.{Word}
 use Rattle.link_net.specs.declared.line.Keyword.{Keyword}
 use Rattle.link_net.specs.declared.line.Keyword.TheVariants as keywords
 
--- the parts of what is left of a text that is cut at each such byte; nothing is left after the last part
-abbrev pub parts_of : ℕ → Option (List ℕ) → List (List ℕ)
-parts_of separator None = []
-parts_of separator (Some text) = slice_split (λ byte. byte == separator) text
-
 -- the words that are left of a line
 abbrev pub words_of : Option (List ℕ) → List (List ℕ)
-words_of text = parts_of 32 text
+words_of text = pieces_left 32 text
 
 -- the words of a text
 abbrev pub words_in : List ℕ → List (List ℕ)
 words_in text = words_of (Some text)
-
--- the only word, the only two, or the only four
-abbrev pub only_word : List (List ℕ) → Option (List ℕ)
-only_word (word ∷ []) = Some word
-only_word words = None
-
-abbrev pub only_two : List (List ℕ) → Option (List ℕ × List ℕ)
-only_two (first ∷ second ∷ []) = Some (first, second)
-only_two words = None
-
-abbrev pub only_four : List (List ℕ) → Option (List ℕ × List ℕ × List ℕ × List ℕ)
-only_four (first ∷ second ∷ third ∷ fourth ∷ []) = Some (first, second, third, fourth)
-only_four words = None
 
 -- the first two words and the others, of which there is one at least
 abbrev pub more_than_two : List (List ℕ) → Option (List ℕ × List ℕ × List (List ℕ))
@@ -69,12 +52,12 @@ line_then (Err fault) later = Err fault
 -- what a line says, unless it is passed over, and then what later ones say
 abbrev pub and_said : (number : ℕ) → List ℕ → Said → Said
 and_said number text later =
-    if scripts.is_passed_over text then later
+    if is_passed_over text then later
     else line_then (scripts.words_said number (slice_split (λ byte. byte == 32) text)) later
 
 -- what lines from this one on say, where this is left of the text
 abbrev pub lines_left : (number : ℕ) → Option (List ℕ) → Said
-lines_left number text = scripts.lines_said (scripts.written_from number (parts_of 10 text))
+lines_left number text = scripts.lines_said (written_from number (pieces_left 10 text))
 
 -- ---- what the words after a keyword say, by how many they are
 

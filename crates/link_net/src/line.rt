@@ -6,15 +6,17 @@ ghost use Rattle.exchange_trace.specs.declared.fault.ScriptFault.TheVariants.{Me
 ghost use Rattle.field_grammar.specs.Answers.{AnswersAs};
 ghost use Rattle.link_net.specs.Lines.{line_view};
 ghost use Rattle.link_net.specs.Reading.{count_of as only_count, keyword_view};
-ghost use Rattle.link_net.specs.Reading.{only_word, words_of};
+ghost use Rattle.link_net.specs.Reading.{words_of};
+ghost use Rattle.text_words.specs.Words.{one_of};
 
 use crate::mail::other;
 use crate::number::{any_number_in, count_in, port_in, size_in};
 use crate::values::{ident_in, parts_in, payload_in, side_in};
-use crate::words::{cut, more_than_two_in, only_four_in, only_two_in, only_word_in, word_count};
+use crate::words::{more_than_two_in, only_four_in, only_two_in, only_word_in, word_count};
 use exchange_trace::{Datagram, ScriptFault, Side};
 use load_base::{Ident, List, PartText};
 use std::alloc::Global;
+use text_words::cut;
 
 /// The most parts of an upload.
 const MOST_PARTS_OF_A_LINE: usize = 64;
@@ -72,13 +74,6 @@ pub enum Keyword {
     Boot,
     Blksize,
     Finish,
-}
-
-/// Whether a line says nothing.
-pub fn is_passed_over(text: &[u8]) -> bool
-    ensures { result ≡ scripts.is_passed_over text.now }
-{
-    text.is_empty() || text[0] == b'#'
 }
 
 /// What the line of this number says, or the first fault in it.
@@ -154,7 +149,7 @@ fn upload_of(alloc: Global, line: u64, rest: Option<&[u8]>) -> Result<Line, Scri
 /// The number that the only word of what is left of a line writes: a datagram's number, or how many
 /// are delivered.
 pub fn count_of(line: u64, rest: Option<&[u8]>) -> Result<u32, ScriptFault>
-    ensures { result ≡ only_count line (only_word (words_of (option_copied rest.entry))) }
+    ensures { result ≡ only_count line (one_of (words_of (option_copied rest.entry))) }
 {
     match only_word_in(rest) {
         Some(word) => count_in(line, word),

@@ -2,7 +2,8 @@
 ghost use Rattle.std.specs.Prelude.{◌≡◌, ◌≤◌, IfOk};
 ghost use Rattle.exchange_trace.specs.Scripts.{count_word, number_word, port_word, size_word};
 
-use exchange_trace::{ScriptFault, decimal_in};
+use exchange_trace::ScriptFault;
+use text_words::decimal_in;
 
 /// The number of a datagram, or how many are to be delivered: 1 to 4,294,967,295.
 pub fn count_in(line: u64, word: &[u8]) -> Result<u32, ScriptFault>

@@ -4,16 +4,17 @@ ghost use Rattle.std.specs.Prelude.{IfOk};
 ghost use Rattle.std.specs.Prelude.{IfErr, OnOk};
 ghost use Rattle.exchange_trace.specs.Lines.{Finish, Upload};
 ghost use Rattle.exchange_trace.specs.declared.fault.ScriptFault.TheVariants.{Memory, Unit};
-ghost use Rattle.exchange_trace.specs.Scripts.{script_said, lines_said, written_lines};
+ghost use Rattle.exchange_trace.specs.Scripts.{script_said, lines_said};
+ghost use Rattle.text_words.specs.Words.{written_lines};
 ghost use Rattle.link_net.specs.Lines.{line_views};
 ghost use Rattle.link_net.specs.Reading.{Said, and_later, and_said};
 
-use crate::line::{Line, is_passed_over, read_line};
-use crate::words::cut;
+use crate::line::{Line, read_line};
 use exchange_trace::ScriptFault;
 use load_base::{Ident, List, NoMemory, PartText};
 use std::alloc::Global;
 use std::marker::Model;
+use text_words::{cut, is_passed_over};
 
 /// The most bytes that a script has.
 const LONGEST_SCRIPT: usize = 1_000_000;

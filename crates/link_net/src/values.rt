@@ -5,11 +5,11 @@ ghost use Rattle.exchange_trace.specs.declared.fault.ScriptFault.TheVariants.{Me
 ghost use Rattle.field_grammar.specs.Answers.{AnswersAs};
 ghost use Rattle.link_net.specs.Reading.{words_in};
 
-use crate::words::cut;
 use exchange_trace::{ScriptFault, Side};
 use hex::FromHexError;
 use load_base::{Bytes, Ident, List, NoMemory, PartText};
 use std::alloc::Global;
+use text_words::cut;
 
 /// The most hexadecimal digits of a payload.
 const MOST_DIGITS: usize = 130_936;

@@ -16,9 +16,10 @@ use Rattle.part_number.specs.PartNumber.{IsPartNumberText}
 use Rattle.part_number.specs.Verdicts.{part_fault_of}
 use Rattle.part_number.proofs.VerdictLemmas.{part_faults}
 use Rattle.field_grammar.proofs.StepLemmas.{then_ok}
-use Rattle.exchange_trace.specs.Scripts.{decimal_between, is_decimal}
+use Rattle.text_words.specs.Words.{decimal_between, is_decimal}
 use Rattle.media_build.specs.Accepted.{IsRecipeWord, IsMemberOf, IsLoadLine, IsFileLine, IsUserLine, IsBatchLine, IsTargetLine, IsSoundLine}
-use Rattle.media_build.specs.Lines.{one_of, two_of, three_of, four_of, five_of, target_of, names_of, members_of, files_of_load, has_user, is_used, is_loaded, target_count, may_follow, keyword_of}
+use Rattle.media_build.specs.Lines.{target_of, names_of, members_of, files_of_load, has_user, is_used, is_loaded, target_count, may_follow, keyword_of}
+use Rattle.text_words.specs.Words.{one_of, two_of, three_of, four_of, five_of}
 use Rattle.media_build.specs.Recipes.{required, passed, number_word, part_word, is_graphic_word, text_word, is_header_name, is_body_name, name_word, member_word, user_word, new_place, placed_words, has_room, load_has_room, type_words, set_line, members_line, load_said, load_line, hardware_line, position_line, source_words, file_said, file_line, user_line, is_batch_name, ident_word, batch_said, batch_line, load_part_word, load_part_words, place_words, batch_has_room, target_said, target_line, statement_said, keyword_said, words_said}
 use Rattle.media_build.specs.declared.fault.RecipeFault.{RecipeFault}
 use Rattle.media_build.specs.declared.fault.RecipeFault.TheVariants as faults

@@ -9,7 +9,7 @@ use Rattle.std.proofs.lemmas.Bool.{leb-true}
 use Rattle.field_grammar.specs.Grammar.{◌then◌}
 use Rattle.field_grammar.proofs.StepLemmas.{then_ok}
 use Rattle.load_base.specs.Bytes.{same_bytes}
-use Rattle.exchange_trace.specs.Scripts.{WrittenLine, written_lines}
+use Rattle.text_words.specs.Words.{WrittenLine, written_lines}
 use Rattle.part_number.specs.PartNumber.{IsPartNumberText}
 use Rattle.media_build.specs.Accepted.{IsSoundLine, IsMemberOf, is_of_loads, is_of_batches, AreBatches, AreLinesInOrder, IsSmallLoad, IsSmallBatch, HasItsLoads, IsRecipe}
 use Rattle.media_build.specs.Lines.{names_in, names_of, members_in, members_of, given, files_of_load, has_user, is_used, ends_load, is_target, is_user, is_loaded, target_count, stage_after, stage_of, is_among_loads, is_batch, is_whole, may_stand}

@@ -1,6 +1,6 @@
 -- The fault of some lines is that of the first that is wrong.
 use Rattle.std.proofs.Common.{◌≡◌, List, [], ◌∷◌, ◌++◌, Result, Ok, Err, refl, ◌∙◌, ap}
-use Rattle.exchange_trace.specs.Scripts.{WrittenLine}
+use Rattle.text_words.specs.Words.{WrittenLine}
 use Rattle.media_build.specs.Recipes.{words_said, lines_said, IsFirstWrong}
 use Rattle.media_build.specs.declared.fault.RecipeFault.{RecipeFault}
 use Rattle.media_build.specs.declared.statements.RecipeLine.{RecipeLine}

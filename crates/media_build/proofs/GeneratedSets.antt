@@ -5,7 +5,7 @@ use Rattle.std.specs.List.{concat, sum_by}
 use Rattle.std.proofs.lemmas.List.{append-nil}
 use Rattle.crc_fields.specs.CheckSums.{crc16_of, crc32_of}
 use Rattle.load_base.specs.Listed.{Listed}
-use Rattle.exchange_trace.specs.Scripts.{written_lines, decimal_between}
+use Rattle.text_words.specs.Words.{written_lines, decimal_between}
 use Rattle.load_base.specs.Name.{IsName}
 use Rattle.load_base.specs.Text.{IsText}
 use Rattle.load_base.specs.Verdicts.{name_fault_of}

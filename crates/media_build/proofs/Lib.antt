@@ -7,7 +7,6 @@ pub mod BuiltNames
 pub mod BuiltSet
 pub mod BuiltSizes
 pub mod Counts
-pub mod Cuts
 pub mod FirstWrong
 pub mod GeneratedSets
 pub mod Generating

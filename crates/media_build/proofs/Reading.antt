@@ -1,7 +1,7 @@
 -- One more line of a recipe.
 use Rattle.std.proofs.Common.{◌≡◌, ℕ, ◌+◌, ◌==◌, Bool, true, false, List, [], ◌∷◌, ◌++◌, Result, Ok, Err, refl, ap}
 use Rattle.std.specs.List.{slice_split}
-use Rattle.exchange_trace.specs.Scripts.{WrittenLine, written_from, is_passed_over}
+use Rattle.text_words.specs.Words.{WrittenLine, written_from, is_passed_over}
 use Rattle.media_build.specs.Recipes.{words_said, line_said, lines_said}
 use Rattle.media_build.specs.declared.fault.RecipeFault.{RecipeFault}
 use Rattle.media_build.specs.declared.statements.RecipeLine.{RecipeLine}

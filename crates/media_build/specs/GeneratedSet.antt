@@ -1,6 +1,6 @@
 -- The generated set of a number (docs/FORMATS.md, "Generated set").
 use Rattle.std.specs.Prelude.{ℕ, List, [], ◌∷◌, codes}
-use Rattle.exchange_trace.specs.Scripts.{lines}
+use Rattle.text_words.specs.Words.{lines}
 use Rattle.media_build.specs.Generator.{generated}
 use Rattle.media_build.specs.RecipeSets.{BuiltView, RecipeLoadView, Sources}
 use Rattle.media_build.specs.declared.statements.FileLine.{FileLine}

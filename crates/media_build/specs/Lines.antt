@@ -71,33 +71,6 @@ may_follow lines keyword = may_stand (length lines) (stage_of lines) keyword
 
 -- ---- words
 
--- what stands between separators, where something is left
-abbrev pub pieces_left : (separator : ℕ) → Option (List ℕ) → List (List ℕ)
-pieces_left separator (Some rest) = slice_split (λ byte. byte == separator) rest
-pieces_left separator None = []
-
--- the words, where there are as many
-abbrev pub one_of : List (List ℕ) → Option (List ℕ)
-one_of (a ∷ []) = Some a
-one_of words = None
-
-abbrev pub two_of : List (List ℕ) → Option (List ℕ × List ℕ)
-two_of (a ∷ b ∷ []) = Some (a, b)
-two_of words = None
-
-abbrev pub three_of : List (List ℕ) → Option (List ℕ × List ℕ × List ℕ)
-three_of (a ∷ b ∷ c ∷ []) = Some (a, b, c)
-three_of words = None
-
-abbrev pub four_of : List (List ℕ) → Option (List ℕ × List ℕ × List ℕ × List ℕ)
-four_of (a ∷ b ∷ c ∷ d ∷ []) = Some (a, b, c, d)
-four_of words = None
-
--- five, of which the first stands alone
-abbrev pub five_of : List (List ℕ) → Option (List ℕ × (List ℕ × List ℕ × List ℕ × List ℕ))
-five_of (a ∷ b ∷ c ∷ d ∷ e ∷ []) = Some (a, (b, c, d, e))
-five_of words = None
-
 -- the first two, and the 1 to 32 behind them
 abbrev pub target_of : List (List ℕ) → Option (List ℕ × List ℕ × List (List ℕ))
 target_of (a ∷ b ∷ others) = if nat_le 1 (length others) && nat_le (length others) 32 then Some (a, b, others) else None

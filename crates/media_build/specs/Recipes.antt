@@ -7,8 +7,9 @@ use Rattle.load_base.specs.Bytes.{same_bytes}
 use Rattle.load_base.specs.PartText.{is_graphic}
 use Rattle.load_base.specs.Verdicts.{verdict, name_fault_of, ident_fault_of}
 use Rattle.part_number.specs.Verdicts.{part_fault_of}
-use Rattle.exchange_trace.specs.Scripts.{WrittenLine, written_lines, is_passed_over, decimal_between}
-use Rattle.media_build.specs.Lines.{keyword_of, stage_of, is_whole, may_follow, one_of, two_of, three_of, four_of, five_of, target_of, names_of, members_of, files_of_load, has_user, is_used, is_loaded, target_count}
+use Rattle.text_words.specs.Words.{WrittenLine, written_lines, is_passed_over, decimal_between}
+use Rattle.media_build.specs.Lines.{keyword_of, stage_of, is_whole, may_follow, target_of, names_of, members_of, files_of_load, has_user, is_used, is_loaded, target_count}
+use Rattle.text_words.specs.Words.{one_of, two_of, three_of, four_of, five_of}
 use Rattle.media_build.specs.declared.fault.RecipeFault.{RecipeFault}
 use Rattle.media_build.specs.declared.fault.RecipeFault.TheVariants.{Word, Number, Name, Part, Order, Repeated, Hex, Limit, NotInRecipe}
 use Rattle.media_build.specs.declared.keywords.Keyword.{Keyword}

@@ -2,7 +2,7 @@
 //! clauses are the law.
 ghost use Rattle.std.specs.Prelude.{◌≡◌, ◌↔◌, ◌≤◌, ◌∷◌, [], ℕ, List, length, codes, Ok, Err};
 ghost use Rattle.std.specs.List.{AllByRecursion, sum_by};
-ghost use Rattle.exchange_trace.specs.Scripts.{WrittenLine, lines};
+ghost use Rattle.text_words.specs.Words.{WrittenLine, lines};
 ghost use Rattle.load_base.specs.Host.{Files};
 ghost use Rattle.load_header.specs.HeaderFields.{header_size};
 ghost use Rattle.media_build.specs.Accepted.{IsRecipe};

@@ -22,7 +22,6 @@ mod load_parts;
 mod loads;
 mod making;
 mod partial;
-mod pieces;
 mod positions;
 mod printing;
 mod recipe;

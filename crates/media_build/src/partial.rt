@@ -1,8 +1,9 @@
 //! The lines of a recipe that were read so far, and what the next line is tested against.
-ghost use Rattle.std.specs.Prelude.{◌≡◌, ◌<◌, ◌∷◌, ◌++◌, [], length, false, IfOk, OnOk};
+ghost use Rattle.std.specs.Prelude.{◌≡◌, ◌<◌, ◌∷◌, ◌++◌, [], length, false, None, Some, IfOk, OnOk};
+ghost use Rattle.std.specs.Prelude.{MatchOption};
 ghost use Rattle.field_grammar.specs.Answers.{AnswersAs};
 ghost use Rattle.media_build.specs.Lines.{is_used, is_whole as is_whole_at, names_in, stage_of};
-ghost use Rattle.media_build.specs.Lines.{target_count};
+ghost use Rattle.media_build.specs.Lines.{target_count, target_of};
 ghost use Rattle.media_build.specs.Partials.{MayFollow, IsNewFile, IsNewName, with_parts};
 ghost use Rattle.media_build.specs.Recipes.{new_place, placed_words, type_words, load_said};
 ghost use Rattle.media_build.specs.Recipes.{source_words, file_said, set_line as set_words};
@@ -23,7 +24,6 @@ use crate::fault::RecipeFault;
 use crate::keywords::{Keyword, Stage, is_whole, keyword_of, may_stand};
 use crate::line_counts::Counts;
 use crate::load_parts::LoadParts;
-use crate::pieces::Pieces;
 use crate::statements::{
     BatchLine, FileLine, LoadLine, RecipeLine, Statement, TargetLine, TargetParts, UserData,
 };
@@ -31,12 +31,13 @@ use crate::words::{
     LONGEST_SOURCE, LONGEST_TEXT, ident, is_batch_name, is_body_name, is_header_name, name, number,
     part, text, user,
 };
-use batch_lists::MOST_TARGETS;
+use batch_lists::{MOST_PARTS_OF_A_TARGET, MOST_TARGETS};
 use indexmap::IndexSet;
 use load_base::{Ident, List, Name, NoMemory, Text};
 use part_number::PartNumber;
 use std::alloc::Global;
 use std::marker::Model;
+use text_words::Pieces;
 
 /// The most files of a set, headers too.
 const MOST_FILES: usize = 1024;
@@ -322,7 +323,7 @@ impl PartialRecipe {
             (target_words line self.now words.old) }
         ensures new { IfOk result (λ target. target_count self.now < 64) }
     {
-        let Some((hw, pos)) = words.two_before_few() else {
+        let Some((hw, pos)) = two_before_few(words) else {
             return Err(RecipeFault::Word(line));
         };
         self.target(alloc, line, hw, pos, words)
@@ -517,6 +518,24 @@ fn insert_part(parts: &mut LoadParts, statement: &Statement) -> Result<(), NoMem
         parts.add(load.part)?;
     }
     Ok(())
+}
+
+/// Takes the first two words of a target's line, where 1 to 32 stand behind them.
+fn two_before_few<'a>(words: &mut Pieces<'a>) -> Option<(&'a [u8], &'a [u8])>
+    ensures { MatchOption result (target_of words.old ≡ None)
+        (λ two. target_of words.old ≡ Some (two.0.now, two.1.now, words.new)) }
+{
+    let Some(first) = words.next() else {
+        return None;
+    };
+    let Some(second) = words.next() else {
+        return None;
+    };
+    let count = words.count();
+    if count < 1 || count > usize::from(MOST_PARTS_OF_A_TARGET) {
+        return None;
+    }
+    Some((first, second))
 }
 
 #[tactic(auto, unfolding(crate::specs::Recipes::set_line))]

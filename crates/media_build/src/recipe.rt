@@ -1,7 +1,7 @@
 //! Recipes, and how they are read.
 ghost use Rattle.std.specs.Prelude.{◌≡◌, ◌≤◌, ◌⊎◌, [], length, Ok, Err, IfOk, IfErr};
 ghost use Rattle.field_grammar.specs.Answers.{AnswersAs};
-ghost use Rattle.exchange_trace.specs.Scripts.{written_lines, is_passed_over as is_passed};
+ghost use Rattle.text_words.specs.Words.{written_lines};
 ghost use Rattle.media_build.specs.Accepted.{IsRecipe};
 ghost use Rattle.media_build.specs.Recipes.{recipe_said, lines_said, line_count as count_lines};
 ghost use Rattle.media_build.specs.Recipes.{line_said};
@@ -9,11 +9,11 @@ ghost use Rattle.media_build.specs.declared.fault.RecipeFault.TheVariants.{Memor
 
 use crate::fault::RecipeFault;
 use crate::partial::PartialRecipe;
-use crate::pieces::Pieces;
 use crate::statements::RecipeLine;
 use load_base::List;
 use std::alloc::Global;
 use std::marker::Model;
+use text_words::{Pieces, is_passed_over};
 
 /// The most bytes of a recipe.
 const LONGEST_RECIPE: usize = 1_000_000;
@@ -103,13 +103,6 @@ fn with_line(
     }
     let statement = partial.read(alloc, number, &mut Pieces::new(line, b' '))?;
     Ok(partial.with(number, statement)?)
-}
-
-/// Whether a line is empty or begins with `#`.
-fn is_passed_over(line: &[u8]) -> bool
-    ensures { result ≡ is_passed line.now }
-{
-    line.is_empty() || line[0] == b'#'
 }
 
 /// How many lines a text has. Each line feed ends one, and what stands after the last is one too.

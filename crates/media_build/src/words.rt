@@ -11,11 +11,11 @@ ghost use Rattle.media_build.specs.declared.fault.RecipeFault.TheVariants.{Memor
 
 use crate::fault::RecipeFault;
 use crate::statements::UserData;
-use exchange_trace::decimal_in;
 use hex::FromHexError;
 use load_base::{Bytes, Ident, Name, NoMemory, Text};
 use part_number::PartNumber;
 use std::alloc::Global;
+use text_words::decimal_in;
 
 /// The most bytes of a type name, a hardware, a position or the part of a file.
 pub(crate) const LONGEST_TEXT: usize = 64;

@@ -1,7 +1,7 @@
 use Rattle.std.proofs.Common.{◌==◌, ◌+◌, Some, length, ap, ◌∙◌, arith, option_copied}
 use Rattle.std.proofs.lemmas.List.Splits.{length-slice_split}
 use Rattle.std.proofs.lemmas.List.Sums.{count_by-le-length}
-use Rattle.exchange_trace.specs.Scripts.{written_lines}
+use Rattle.text_words.specs.Words.{written_lines}
 use Rattle.link_net.specs.Reading.{and_later}
 use Rattle.fleet_trace.specs.FleetScripts.{fleet_lines_said}
 use Rattle.fleet_link.specs.Lines.{fleet_line_views}

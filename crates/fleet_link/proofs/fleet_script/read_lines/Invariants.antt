@@ -1,7 +1,7 @@
 use Rattle.std.proofs.Common.{◌≡◌, ◌+◌, ◌==◌, length, option_copied}
 use Rattle.std.specs.List.{slice_split}
-use Rattle.exchange_trace.specs.Scripts.{written_lines}
-use Rattle.link_net.specs.Reading.{and_later, parts_of}
+use Rattle.text_words.specs.Words.{pieces_left, written_lines}
+use Rattle.link_net.specs.Reading.{and_later}
 use Rattle.fleet_trace.specs.FleetScripts.{fleet_lines_said}
 use Rattle.fleet_link.specs.Lines.{fleet_line_views}
 use Rattle.fleet_link.specs.Reading.{fleet_lines_left}
@@ -11,8 +11,8 @@ use Rattle.fleet_link.proofs.fleet_script.read_lines.Given as goal
 abbrev pub invariant-loop-left : goal.invariant-loop-left
 invariant-loop-left l = record {
   said : fleet_lines_said l.units (written_lines l.bytes) ≡ and_later (fleet_line_views l.lines.items) (fleet_lines_left l.number l.units (option_copied l.left));
-  count : l.number + length (parts_of 10 (option_copied l.left)) ≡ length (slice_split (λ byte. byte == 10) l.bytes) + 1;
+  count : l.number + length (pieces_left 10 (option_copied l.left)) ≡ length (slice_split (λ byte. byte == 10) l.bytes) + 1;
 }
 
 abbrev pub decreases-loop-left : goal.decreases-loop-left
-decreases-loop-left l = length (parts_of 10 (option_copied l.left))
+decreases-loop-left l = length (pieces_left 10 (option_copied l.left))

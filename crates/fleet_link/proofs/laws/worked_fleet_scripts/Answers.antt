@@ -1,5 +1,5 @@
 use Rattle.std.proofs.Common.{refl}
-use Rattle.exchange_trace.specs.Scripts.{written_lines, decimal_between}
+use Rattle.text_words.specs.Words.{written_lines, decimal_between}
 use Rattle.load_base.specs.Verdicts.{ident_fault_of, part_text_fault_of}
 use Rattle.hex.specs.Hex.{decode_pairs}
 use Rattle.fleet_trace.specs.FleetScripts.{fleet_script_said}

@@ -1,7 +1,8 @@
 use Rattle.std.proofs.Common.{◌==◌, ◌+◌, Some, length, ap, ◌∙◌, arith, option_copied}
 use Rattle.std.proofs.lemmas.List.Splits.{length-slice_split}
 use Rattle.std.proofs.lemmas.List.Sums.{count_by-le-length}
-use Rattle.exchange_trace.specs.Scripts.{lines_said, written_lines}
+use Rattle.exchange_trace.specs.Scripts.{lines_said}
+use Rattle.text_words.specs.Words.{written_lines}
 use Rattle.link_net.specs.Lines.{line_views}
 use Rattle.link_net.specs.Reading.{and_later, lines_left}
 use Rattle.link_net.proofs.Readings.{from_start, lines_cut, wrong_line}

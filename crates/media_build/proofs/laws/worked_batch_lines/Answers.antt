@@ -1,7 +1,7 @@
 use Rattle.std.proofs.Common.{refl}
 use Rattle.media_build.specs.Recipes.{recipe_said, words_said, keyword_said, set_line, members_line, load_line, load_said, placed_words, new_place, type_words, batch_line, batch_said, target_line, target_said, place_words, load_part_word, part_word, text_word, name_word, ident_word, ends_with}
 use Rattle.media_build.specs.Lines.{keyword_of, may_stand, stage_of, names_of, members_of, is_loaded, targets_of_batch}
-use Rattle.exchange_trace.specs.Scripts.{written_lines, decimal_between}
+use Rattle.text_words.specs.Words.{written_lines, decimal_between}
 use Rattle.load_base.specs.Verdicts.{name_fault_of, ident_fault_of}
 use Rattle.part_number.specs.Verdicts.{part_fault_of}
 use Rattle.part_number.specs.PartNumber.{is_good_at, check_of}

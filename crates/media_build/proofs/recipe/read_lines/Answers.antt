@@ -1,7 +1,7 @@
 use Rattle.std.proofs.Common.{◌==◌, refl, arith}
 use Rattle.std.proofs.lemmas.List.Splits.{length-slice_split}
 use Rattle.std.proofs.lemmas.List.Sums.{count_by-le-length}
-use Rattle.exchange_trace.specs.Scripts.{written_lines}
+use Rattle.text_words.specs.Words.{written_lines}
 use Rattle.media_build.proofs.recipe.read_lines.Goals as goal
 
 pub loop-line-init : goal.loop-line-init

@@ -1,6 +1,6 @@
 use Rattle.std.proofs.Common.{◌≡◌, ◌+◌, ◌==◌, [], length}
 use Rattle.std.specs.List.{slice_split}
-use Rattle.exchange_trace.specs.Scripts.{written_from, written_lines}
+use Rattle.text_words.specs.Words.{written_from, written_lines}
 use Rattle.media_build.specs.Recipes.{lines_said}
 use Rattle.media_build.proofs.recipe.read_lines.Given as goal
 

@@ -1,4 +1,4 @@
-use Rattle.exchange_trace.specs.Scripts.{written_lines}
+use Rattle.text_words.specs.Words.{written_lines}
 use Rattle.fleet_link.specs.Lines.{fleet_line_views}
 use Rattle.fleet_link.proofs.UnitsSaid.{lines_at_units}
 use Rattle.fleet_link.proofs.fleet_script.FleetScript.read.Goals as goal

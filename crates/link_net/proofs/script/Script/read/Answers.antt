@@ -1,4 +1,4 @@
-use Rattle.exchange_trace.specs.Scripts.{written_lines}
+use Rattle.text_words.specs.Words.{written_lines}
 use Rattle.link_net.proofs.NoUnits.{refused_never}
 use Rattle.link_net.proofs.script.Script.read.Goals as goal
 

@@ -1,5 +1,5 @@
 use Rattle.std.proofs.Common.{sym, subst, ◌∙◌, arith}
-use Rattle.exchange_trace.specs.Scripts.{written_lines}
+use Rattle.text_words.specs.Words.{written_lines}
 use Rattle.media_build.specs.Accepted.{IsRecipe}
 use Rattle.media_build.proofs.AcceptedRecipes.{what_lines_say_is_a_recipe}
 use Rattle.media_build.proofs.recipe.Recipe.read.Goals as goal

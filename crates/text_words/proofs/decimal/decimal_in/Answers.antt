@@ -1,9 +1,9 @@
 use Rattle.std.proofs.Common.{◌≡◌, ◌<◌, ◌+◌, sym, arith, true, take}
 use Rattle.std.specs.Str.Parse.{digits_value}
 use Rattle.std.proofs.lemmas.Int.Digits.{digits_value_more}
-use Rattle.exchange_trace.specs.Scripts.{is_decimal}
-use Rattle.exchange_trace.proofs.Digits.{all_digits, digit_at, too_large}
-use Rattle.exchange_trace.proofs.number.decimal_in.Goals as goal
+use Rattle.text_words.specs.Words.{is_decimal}
+use Rattle.text_words.proofs.Digits.{all_digits, digit_at, too_large}
+use Rattle.text_words.proofs.decimal.decimal_in.Goals as goal
 
 pub returns-then-number-high-clause-said : goal.returns-then-number-high-clause-said
 returns-then-number-high-clause-said c =

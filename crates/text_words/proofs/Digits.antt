@@ -7,7 +7,7 @@ use Rattle.std.proofs.lemmas.Str.Parse.{digits_value-take-le}
 use Rattle.std.proofs.lemmas.Bool.{leb-true}
 use Rattle.std.proofs.lemmas.List.Folds.{list_all_at}
 use Rattle.std.proofs.lemmas.Grind.{common_steps}
-use Rattle.exchange_trace.specs.Scripts.{decimal_between, is_decimal}
+use Rattle.text_words.specs.Words.{decimal_between, is_decimal}
 
 digit_above : (c : ℕ) → is_ascii_digit c ≡ true → digit_value c ≡ c - 48
 digit_above c e = grind (arith, common_steps)

@@ -2,24 +2,22 @@
 ghost use Rattle.std.specs.Prelude.{◌≡◌, ◌==◌, ◌∷◌, [], None, Some, MatchOption, length};
 ghost use Rattle.std.specs.Prelude.{option_copied, option_map};
 ghost use Rattle.std.specs.List.{slice_split, position};
-ghost use Rattle.media_build.specs.Lines.{pieces_left, one_of, two_of, three_of, four_of, five_of};
-ghost use Rattle.media_build.specs.Lines.{target_of};
+ghost use Rattle.text_words.specs.Words.{pieces_left, one_of, two_of, three_of, four_of, five_of};
 
-use batch_lists::MOST_PARTS_OF_A_TARGET;
 use std::marker::Model;
 
 /// The pieces between the separators, from left to right; there is one more than separators.
 ///
 /// A contract sees it as the list of the pieces that are left.
 #[derive(Drop)]
-pub(crate) struct Pieces<'a> {
+pub struct Pieces<'a> {
     rest: Option<&'a [u8]>,
     separator: u8,
 }
 
 impl<'a> Model for Pieces<'a> {
     ghost use Rattle.std.specs.Prelude.{List, ℕ, option_copied};
-    ghost use Rattle.media_build.specs.Lines.{pieces_left};
+    ghost use Rattle.text_words.specs.Words.{pieces_left};
 
     ghost Value = { List (List ℕ) };
 
@@ -28,7 +26,7 @@ impl<'a> Model for Pieces<'a> {
 
 impl<'a> Pieces<'a> {
     /// All pieces of these bytes.
-    pub(crate) fn new(bytes: &'a [u8], separator: u8) -> Pieces<'a>
+    pub fn new(bytes: &'a [u8], separator: u8) -> Pieces<'a>
         ensures { result ≡ slice_split (λ byte. byte == separator) bytes.now }
     {
         Pieces {
@@ -37,8 +35,15 @@ impl<'a> Pieces<'a> {
         }
     }
 
+    /// What is left of bytes of which the first pieces were cut off, where something is left.
+    pub fn left(rest: Option<&'a [u8]>, separator: u8) -> Pieces<'a>
+        ensures { result ≡ pieces_left separator (option_copied rest.entry) }
+    {
+        Pieces { rest, separator }
+    }
+
     /// Takes the first piece that is left.
-    pub(crate) fn next(&mut self) -> Option<&'a [u8]>
+    pub fn next(&mut self) -> Option<&'a [u8]>
         ensures { MatchOption result ((self.old ≡ []) × (self.new ≡ []))
             (λ piece. self.old ≡ piece.now ∷ self.new) }
     {
@@ -51,7 +56,7 @@ impl<'a> Pieces<'a> {
     }
 
     /// The one piece that is left; `None` where it isn't one.
-    pub(crate) fn one(&mut self) -> Option<&'a [u8]>
+    pub fn one(&mut self) -> Option<&'a [u8]>
         ensures { option_map (λ word. word.now) result ≡ one_of self.old }
     {
         let Some(word) = self.next() else {
@@ -64,7 +69,7 @@ impl<'a> Pieces<'a> {
     }
 
     /// The two pieces that are left.
-    pub(crate) fn two(&mut self) -> Option<(&'a [u8], &'a [u8])>
+    pub fn two(&mut self) -> Option<(&'a [u8], &'a [u8])>
         ensures { option_map (λ words. (words.0.now, words.1.now)) result ≡ two_of self.old }
     {
         let Some(first) = self.next() else {
@@ -77,7 +82,7 @@ impl<'a> Pieces<'a> {
     }
 
     /// The three pieces that are left.
-    pub(crate) fn three(&mut self) -> Option<(&'a [u8], &'a [u8], &'a [u8])>
+    pub fn three(&mut self) -> Option<(&'a [u8], &'a [u8], &'a [u8])>
         ensures { option_map (λ words. (words.0.now, words.1.now, words.2.now)) result
             ≡ three_of self.old }
     {
@@ -91,7 +96,7 @@ impl<'a> Pieces<'a> {
     }
 
     /// The four pieces that are left.
-    pub(crate) fn four(&mut self) -> Option<(&'a [u8], &'a [u8], &'a [u8], &'a [u8])>
+    pub fn four(&mut self) -> Option<(&'a [u8], &'a [u8], &'a [u8], &'a [u8])>
         ensures { option_map (λ words. (words.0.now, words.1.now, words.2.now, words.3.now)) result
             ≡ four_of self.old }
     {
@@ -108,7 +113,7 @@ impl<'a> Pieces<'a> {
     }
 
     /// The five pieces that are left, of which the first stands alone.
-    pub(crate) fn five(&mut self) -> Option<(&'a [u8], (&'a [u8], &'a [u8], &'a [u8], &'a [u8]))>
+    pub fn five(&mut self) -> Option<(&'a [u8], (&'a [u8], &'a [u8], &'a [u8], &'a [u8]))>
         ensures { option_map (λ words. (
           words.0.now,
           (
@@ -128,27 +133,9 @@ impl<'a> Pieces<'a> {
         Some((first, others))
     }
 
-    /// Takes the first two pieces, where 1 to 32 stand behind them.
-    pub(crate) fn two_before_few(&mut self) -> Option<(&'a [u8], &'a [u8])>
-        ensures { MatchOption result (target_of self.old ≡ None)
-            (λ words. target_of self.old ≡ Some (words.0.now, words.1.now, self.new)) }
-    {
-        let Some(first) = self.next() else {
-            return None;
-        };
-        let Some(second) = self.next() else {
-            return None;
-        };
-        let count = self.count();
-        if count < 1 || count > usize::from(MOST_PARTS_OF_A_TARGET) {
-            return None;
-        }
-        Some((first, second))
-    }
-
     /// How many pieces are left.
     #[tactic(auto, using(crate::proofs::Cuts::pieces_are))]
-    fn count(&self) -> usize
+    pub fn count(&self) -> usize
         ensures { result ≡ length self.now }
     {
         let Some(bytes) = self.rest else {
@@ -161,7 +148,7 @@ impl<'a> Pieces<'a> {
 
 /// What stands before the first separator, and what stands after it, where there is one.
 #[tactic(auto, using(crate::proofs::Cuts::cut_none, crate::proofs::Cuts::cut_some))]
-fn cut(bytes: &[u8], separator: u8) -> (&[u8], Option<&[u8]>)
+pub fn cut(bytes: &[u8], separator: u8) -> (&[u8], Option<&[u8]>)
     ensures { slice_split (λ byte. byte == separator) bytes.now
         ≡ result.0.now ∷ pieces_left separator (option_copied result.1) }
 {

@@ -1,12 +1,12 @@
-//! Decimal numbers of a script and of a recipe.
+//! Decimal numbers.
 ghost use Rattle.std.specs.Prelude.{◌≡◌, ◌≤◌, IfSome};
 ghost use Rattle.std.specs.Char.{is_ascii_digit};
 ghost use Rattle.std.specs.List.{list_all};
-ghost use Rattle.exchange_trace.specs.Scripts.{decimal_between, is_decimal as is_decimal_word};
+ghost use Rattle.text_words.specs.Words.{decimal_between, is_decimal as is_decimal_word};
 
 /// The number that a word writes in decimal digits, without a sign or a leading zero; `None` where
 /// it writes none, or one outside the range from `low` to `high` (docs/FORMATS.md, "Script").
-#[tactic(auto, unfolding(crate::specs::Scripts::decimal_between))]
+#[tactic(auto, unfolding(crate::specs::Words::decimal_between))]
 pub fn decimal_in(word: &[u8], low: u32, high: u32) -> Option<u32>
     ensures said { result ≡ decimal_between low high word.now }
     ensures within { IfSome result (λ number. number ≤ high) }
