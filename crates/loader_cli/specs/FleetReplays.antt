@@ -18,7 +18,7 @@ use Rattle.accept_rules.specs.Permissions.{permits}
 use Rattle.loader_machine.specs.Machine.{media_of, session_view}
 use Rattle.session_rules.specs.Loader.{EndedSession}
 use Rattle.session_completion.specs.FinishedRuns.{IsComplete}
-use Rattle.completion_reports.specs.Reports.{AllReportsAreTrue}
+use Rattle.run_promises.specs.Reports.{AllReportsAreTrue}
 use Rattle.replay_rules.specs.BothEnds.{Setting}
 use Rattle.replay_rules.specs.FaultFree.{IsFaultFree, NothingInjected}
 use Rattle.replay_rules.specs.Runs.{IsWithinMargin}

@@ -36,7 +36,7 @@ use Rattle.replay_rules.specs.BothEnds.{Setting}
 use Rattle.replay_rules.specs.FaultFree.{NothingInjected}
 use Rattle.finish_ends.specs.Scripts.{most_of_lines}
 use Rattle.session_completion.specs.FinishedRuns.{IsComplete}
-use Rattle.completion_reports.specs.Reports.{AllReportsAreTrue}
+use Rattle.run_promises.specs.Reports.{AllReportsAreTrue}
 use Rattle.run_promises.specs.Promises.{ChangesByGoodLoads, IsLeftToLastFinish, TellsTrue}
 use Rattle.upload_replay.specs.declared.outcome.Drive.{Drive}
 use Rattle.upload_replay.specs.Drives.{IsLoadersRun, IsDrivenRun, NeverBoots}

@@ -29,7 +29,7 @@ use Rattle.replay_rules.specs.OwnSessionTraces.{CompletedStays}
 use Rattle.replay_rules.specs.Promises.{IsTrace}
 use Rattle.replay_rules.specs.Runs.{TraceFollows}
 use Rattle.exchange_trace.specs.Lines.{Line}
-use Rattle.completion_reports.specs.Reports.{ReportsAreTrue}
+use Rattle.run_promises.specs.Reports.{ReportsAreTrue}
 use Rattle.replay_rules.specs.Causes.{AllDeniedWhereSpent, AllStoppedWhereFailed, DenialsAreForSequence, DeniedWhereSpent, BeginsSmall, EndsAs, FilesAreGood, IsOutcomeOfFile, NoBadFile, NoBadFiles, SessionsEndInSteps, StoppedWhereFailed, StopsAreForVerdicts}
 use Rattle.replay_rules.specs.Outcomes.{OutcomesHaveCauses}
 use Rattle.finish_ends.specs.Scripts.{TracesAreBounded}

@@ -5,3 +5,5 @@ pub mod Listed
 pub mod Named
 pub mod Tellable
 pub mod Told
+pub mod Reporting
+pub mod TrueReports

@@ -1,3 +1,4 @@
 pub mod Listing
 pub mod Promises
+pub mod Reports
 pub mod TellableSets

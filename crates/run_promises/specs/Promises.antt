@@ -28,7 +28,7 @@ use Rattle.replay_rules.specs.MediaTraces.{LengthsAreTold}
 use Rattle.replay_rules.specs.OwnSessionTraces.{StaysInstalled}
 use Rattle.replay_rules.specs.Promises.{AllOfMedia, IsTrace, NoneGoesDown}
 use Rattle.replay_rules.specs.Runs.{TraceFollows, IsWithinMargin}
-use Rattle.completion_reports.specs.Reports.{AllReportsAreTrue}
+use Rattle.run_promises.specs.Reports.{AllReportsAreTrue}
 use Rattle.replay_rules.specs.Causes.{IsDeniedForSequence, IsStoppedByVerdict}
 use Rattle.replay_rules.specs.Outcomes.{AllEndByCause}
 use Rattle.finish_ends.specs.Scripts.{most_of_lines}

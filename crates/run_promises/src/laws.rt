@@ -2,9 +2,9 @@
 ghost use Rattle.run_promises.specs.Listing.{WhatFitsCanBeListed, WhatFitsNamesItsFiles};
 ghost use Rattle.run_promises.specs.Listing.{WhatIsActiveCanBeListed, WhatIsHeldFits};
 ghost use Rattle.run_promises.specs.Promises.{RunsKeepPromises};
+ghost use Rattle.run_promises.specs.Reports.{ReportsAreTrue};
 ghost use Rattle.run_promises.specs.TellableSets.{SetsCanBeTold};
 
-use completion_reports::laws::what_a_target_reports_is_installed;
 use crc_fields::check_sum_laws;
 use finish_ends::laws::every_script_ends;
 use load_header::header_laws;
@@ -17,6 +17,18 @@ use replay_rules::laws::{
 };
 use session_completion::laws::a_run_left_to_finish_completes;
 use tftp_packet::packet_laws;
+
+/// Whatever is delivered, lost, repeated, reordered, delayed or injected in a run, and wherever
+/// power fails: from the step in which a target posts the request of the LUS which says that all is
+/// installed, and as long as it sends that file, nothing may be active but the configuration that
+/// its own session brought, in this step or in one before, of exactly the loads that were asked
+/// for, and of those that were kept.
+pub fn what_a_target_reports_is_installed()
+    ensures { ReportsAreTrue }
+{
+    check_sum_laws();
+    the_configuration_changes_by_good_verdicts();
+}
 
 /// Whatever configuration an image holds, its identity has Idents and its loads are those of a
 /// manifest. So the protocol files of its target have names, and it can be listed in an

@@ -29,7 +29,7 @@ use Rattle.session_rules.specs.Target as target
 use Rattle.session_rules.proofs.TargetLemmas.{FitsChange, after, decision_fits, end_stays}
 use Rattle.session_rules.specs.TargetLog.{TargetReading, TargetSessionLog, standing_after, standing_in, target_extended, target_reading_changed, target_view, with_done}
 use Rattle.session_rules.specs.TargetRows.{Awaits_lur, Gives_denial, Gives_lci, Gives_lui, Over, Reads_file, RowMove, RowView, UploadEnd, WholeRow, Writes_completion, Writes_lcl, Writes_lcs, Writes_progress, Writes_ready, Writes_stop, row_move, view_moved, with_bytes}
-use Rattle.completion_reports.specs.Reports.{IsReport, WritesReport}
+use Rattle.run_promises.specs.Reports.{IsReport, WritesReport}
 
 -- ---- where a session ends or begins anew, no report is live
 

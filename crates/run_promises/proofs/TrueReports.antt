@@ -27,8 +27,8 @@ use Rattle.replay_rules.specs.BothEnds.{Is_down, Is_up, Setting, TargetStanding,
 use Rattle.replay_rules.specs.Changes.{AllStayOrAreNew, ChangesAreNew, TargetStaysOrIsNew}
 use Rattle.replay_rules.specs.Histories.{active_in, may_be_active}
 use Rattle.replay_rules.proofs.TieLemmas.{HasLive, target_is_live}
-use Rattle.completion_reports.specs.Reports.{AllReportsAreTrue, HasSession, IsReport, ReportIsTrue, ReportsAreTrue, ReportsCompletion}
-use Rattle.completion_reports.proofs.Reporting.{IsCompleted, next_sequence, reading, step_completes}
+use Rattle.run_promises.specs.Reports.{AllReportsAreTrue, HasSession, IsReport, ReportIsTrue, ReportsAreTrue, ReportsCompletion}
+use Rattle.run_promises.proofs.Reporting.{IsCompleted, next_sequence, reading, step_completes}
 
 -- ---- a target that goes down has no session
 

@@ -1,5 +1,5 @@
-use Rattle.completion_reports.proofs.TrueReports.{reports_are_true}
-use Rattle.completion_reports.proofs.laws.what_a_target_reports_is_installed.Goals as goal
+use Rattle.run_promises.proofs.TrueReports.{reports_are_true}
+use Rattle.run_promises.proofs.laws.what_a_target_reports_is_installed.Goals as goal
 
 pub returns : goal.returns
 returns c = reports_are_true (record {
