@@ -1,13 +1,6 @@
 -- The file that ends a session of the loader arrived whole, from a transfer of the target.
-use Rattle.std.proofs.Common.{◌≡◌, ◌⊎◌, inl, inr, ℕ, Bool, true, false, cond, List, [], ◌∷◌, ◌++◌, Option, Some, None, refl, sym, ap, subst, ◌∙◌, append-nil}
-use Rattle.std.specs.Prelude.{◌==◌}
+use Rattle.std.proofs.Common.{◌≡◌, ◌⊎◌, inl, inr, ℕ, true, false, List, [], ◌∷◌, ◌++◌, Option, Some, None, refl, sym, ap, subst, ◌∙◌, append-nil}
 use Rattle.field_grammar.specs.Grammar.{IsBytes}
-use Rattle.tftp_packet.specs.declared.options.Options.{Options}
-use Rattle.tftp_packet.specs.Packets.{Ack, Data, Error, Oack, PacketView, Rrq, Wrq}
-use Rattle.tftp_link.specs.declared.phase.Phase.{Phase}
-use Rattle.tftp_link.specs.declared.phase.Phase.TheVariants.{Failed, Finished, Running, Waiting}
-use Rattle.tftp_link.specs.Answers.{Answer, Completes, Dropped, Grants, Proceeds, TakesLast, error_answer}
-use Rattle.tftp_link.specs.Sender.{Sender, ack_answer, awaited_answer, last_of, sender_answer, sender_oack_answer}
 use Rattle.exchange_trace.specs.declared.trace.Side.TheVariants as sides
 use Rattle.exchange_trace.specs.Logs.{Event, Learns, event_for, logged, loader_log}
 use Rattle.exchange_trace.specs.Posts.{posted_in}
@@ -15,14 +8,13 @@ use Rattle.exchange_trace.specs.Steps.{Step}
 use Rattle.transfer_end.specs.Moves.{past_with}
 use Rattle.transfer_end.specs.OtherEnds.{Among, AnswersRequest, ComesFromEnd, TellsLength, file_sent, is_asking, is_receiving, of_end, of_none}
 use Rattle.transfer_end.specs.Readings.{Reading}
-use Rattle.transfer_end.proofs.RfcLemmas.{end_is_of_link}
-use Rattle.transfer_end.specs.Transfers.{LinkEnd, Reads, Role, ServesRead, ServesWrite, Transfer, Writes, arrived_of, arriving_in, end_answer, end_in, end_moved, end_of, is_received}
-use Rattle.transfer_end.proofs.ViewLemmas.{end_of_more}
+use Rattle.transfer_end.specs.Transfers.{Transfer, arrived_of, arriving_in, end_in, is_received}
 use Rattle.session_rules.specs.declared.outcome.FileKind.{FileKind}
 use Rattle.session_rules.specs.declared.outcome.Outcome.{Outcome}
 use Rattle.session_rules.specs.declared.outcome.Outcome.TheVariants.{BadFile}
 use Rattle.session_rules.proofs.BufferLemmas.{SumsJoin, buffered_on}
 use Rattle.session_rules.specs.Buffers.{Buffer, buffered, buffered_more}
+use Rattle.session_rules.proofs.CompletionLemmas.{last_received}
 use Rattle.session_rules.proofs.HeardLemmas.{loader_takes_what_came}
 use Rattle.session_rules.specs.LoaderLog.{LoaderReading, loader_extended, loader_reading, newest}
 use Rattle.session_rules.proofs.LoaderRoleLemmas.{arrived_last, longer, whole_prefix}
@@ -41,64 +33,6 @@ use Rattle.replay_rules.proofs.Replies.{not_too_long}
 use Rattle.replay_rules.proofs.TargetFiles.{BeginsWell}
 use Rattle.replay_rules.proofs.TargetTells.{IsToldCause, told_cause}
 use Rattle.replay_rules.proofs.ToldTraces.{loader_log_bytes}
-
--- ---- an end that takes the last block of a file receives it
-
-abbrev IsNotLast : Answer → Type 0
-IsNotLast answer = (more : List ℕ) → answer ≡ TakesLast more → ⊥
-
-not_last_if : (b : Bool) (x y : Answer) → IsNotLast x → IsNotLast y → IsNotLast (cond b x y)
-not_last_if true x y p q = p
-not_last_if false x y p q = q
-
-dropped_not : IsNotLast Dropped
-dropped_not more e = cc
-
-proceeds_not : IsNotLast Proceeds
-proceeds_not more e = cc
-
-awaited_not : (s : Sender) → IsNotLast (awaited_answer s)
-awaited_not s = not_last_if (s.sent == last_of s) Completes Proceeds (λ more e. cc) proceeds_not
-
-ack_not : (phase : Phase) (s : Sender) (k : ℕ) → IsNotLast (ack_answer phase s k)
-ack_not Waiting s k = not_last_if (k == 0) Proceeds Dropped proceeds_not dropped_not
-ack_not Running s k = not_last_if (k == s.sent) (awaited_answer s) Dropped (awaited_not s) dropped_not
-ack_not Finished s k = dropped_not
-ack_not (Failed code) s k = dropped_not
-
-oack_not : (phase : Phase) (s : Sender) (o : Options) → IsNotLast (sender_oack_answer phase s o)
-oack_not Waiting s o = not_last_if _ (Grants o) Dropped (λ more e. cc) dropped_not
-oack_not Running s o = dropped_not
-oack_not Finished s o = dropped_not
-oack_not (Failed code) s o = dropped_not
-
-error_not : (phase : Phase) (code : ℕ) → IsNotLast (error_answer phase code)
-error_not Waiting code more e = cc
-error_not Running code more e = cc
-error_not Finished code more e = cc
-error_not (Failed other) code more e = cc
-
-sender_not : (s : Sender) (p : PacketView) → IsNotLast (sender_answer s p)
-sender_not s (Ack k) = ack_not s.phase s k
-sender_not s (Oack o) = oack_not s.phase s o
-sender_not s (Error code m) = error_not s.phase code
-sender_not s (Data k b) = dropped_not
-sender_not s (Rrq name o) = dropped_not
-sender_not s (Wrq name o) = dropped_not
-
-last_received : (role : Role) (got : List PacketView) (p : PacketView) (more : List ℕ) → end_answer (end_of role got) p ≡ TakesLast more → (is_receiving role ≡ true) × (is_received (end_of role (got ++ p ∷ [])) ≡ true)
-last_received (ServesWrite name o) got p more e = (
-  refl,
-  ap is_received (end_of_more (ServesWrite name o) got p) ∙ ap (λ (answer : Answer). is_received (end_moved (end_of (ServesWrite name o) got) answer)) e
-      ∙ ap (λ (end : LinkEnd). is_received (end_moved end (TakesLast more))) (end_is_of_link name [] o got).1,
-)
-last_received (Reads name o) got p more e = (
-  refl,
-  ap is_received (end_of_more (Reads name o) got p) ∙ ap (λ (answer : Answer). is_received (end_moved (end_of (Reads name o) got) answer)) e
-      ∙ ap (λ (end : LinkEnd). is_received (end_moved end (TakesLast more))) (end_is_of_link name [] o got).0,
-)
-last_received (Writes name o f) got p more e = absurd (sender_not _ p more (sym (ap (λ (end : LinkEnd). end_answer end p) (end_is_of_link name f o got).2) ∙ e))
-last_received (ServesRead name o f) got p more e = absurd (sender_not _ p more (sym (ap (λ (end : LinkEnd). end_answer end p) (end_is_of_link name f o got).3) ∙ e))
 
 -- ---- the file that ends a session
 

@@ -16,7 +16,7 @@ use Rattle.session_rules.specs.declared.outcome.SessionKind.TheVariants.{Info, U
 use Rattle.session_rules.specs.Loader.{Advances, Begins, Begins_over, Continues, EndedSession, Ends, LoaderChange, Start, loader_decision}
 use Rattle.session_rules.proofs.LoaderLemmas.{end_stays, row_of_more, row_of_none}
 use Rattle.session_rules.specs.LoaderLog.{LoaderReading, SessionLog, loader_reading, loader_reading_changed, loader_view, newest}
-use Rattle.session_rules.proofs.LoaderRoleLemmas.{loader_decision_fits}
+use Rattle.session_rules.proofs.LoaderRoleLemmas.{IsInfoRow, info_after, loader_decision_fits}
 use Rattle.session_rules.specs.LoaderRoles.{EndsLive, FitsLoaderChange, IsNoError, loader_row}
 use Rattle.session_rules.specs.LoaderRows.{LoaderRow, Reads_lci, Reads_lui, Serves_files, Takes_lcl, Takes_lcs, Takes_lus, Writes_lur, first_row, row_after, row_of}
 use Rattle.session_rules.specs.MediaFiles.{Media}
@@ -265,21 +265,6 @@ pub files_answer : (media : Media) (log : List Event) (s : SessionLog) → (load
 files_answer media log s live row own = own_answers media log s Serves_files live row own
 
 -- ---- the rows of an information session
-
-abbrev pub IsInfoRow : LoaderRow → Type 0
-IsInfoRow Reads_lci = Unit {0}
-IsInfoRow Takes_lcs = Unit {0}
-IsInfoRow Takes_lcl = Unit {0}
-IsInfoRow row = ⊥
-
-info_after : (row : LoaderRow) → IsInfoRow row → IsInfoRow (row_after row)
-info_after Reads_lci h = tt
-info_after Takes_lcs h = tt
-info_after Takes_lcl h = tt
-info_after Reads_lui h = absurd h
-info_after Takes_lus h = absurd h
-info_after Writes_lur h = absurd h
-info_after Serves_files h = absurd h
 
 info_fold : (row : LoaderRow) (done : List Transfer) → IsInfoRow row → IsInfoRow (fold (λ x _. row_after x) row done)
 info_fold row [] h = h

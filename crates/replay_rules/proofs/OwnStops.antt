@@ -28,7 +28,8 @@ use Rattle.replay_rules.proofs.OtherEnd.{HasOther}
 use Rattle.replay_rules.proofs.SentTraces.{TraceIsFair, trace_is_fair}
 use Rattle.replay_rules.specs.Causes.{FailsFor, IsStoppedByVerdict, WasBegunSince}
 use Rattle.replay_rules.proofs.Arrived.{EndedByTarget}
-use Rattle.replay_rules.proofs.FirstAnswer.{HasRead, IsInfoRow, StartsUpload, files_answer, upload_started}
+use Rattle.session_rules.proofs.LoaderRoleLemmas.{IsInfoRow}
+use Rattle.replay_rules.proofs.FirstAnswer.{HasRead, StartsUpload, files_answer, upload_started}
 use Rattle.replay_rules.proofs.ServedSince.{not_there, posted_still}
 use Rattle.replay_rules.proofs.SinceStart.{CameSince, came_since}
 use Rattle.replay_rules.proofs.StatusRows as rows

@@ -22,6 +22,7 @@ use Rattle.session_rules.specs.declared.outcome.FileKind.TheVariants as kinds
 use Rattle.session_rules.specs.declared.reason.Reason.{Reason}
 use Rattle.session_rules.specs.declared.reason.Reason.TheVariants as reasons
 use Rattle.session_rules.proofs.BufferLemmas.{SumsJoin}
+use Rattle.session_rules.proofs.CompletionLemmas.{EndsForReason, accepting_size, denying_size, lci_size, moved_reason, written_file}
 use Rattle.session_rules.proofs.FairLemmas.{target_moves_fit}
 use Rattle.session_rules.specs.Fairness.{IsTargetRole}
 use Rattle.replay_rules.proofs.FilesInRows.{IsAskedByRow, IsAskedSo, moves_asked}
@@ -29,9 +30,7 @@ use Rattle.session_rules.specs.Reports.{accepting_lui, completed_lus, denying_lu
 use Rattle.session_rules.specs.Target as target
 use Rattle.session_rules.proofs.TargetLemmas.{seen_row}
 use Rattle.session_rules.specs.TargetLog.{TargetReading, TargetSessionLog, target_extended, target_view}
-use Rattle.session_rules.specs.TargetRows as rows
-use Rattle.session_rules.specs.TargetRows.{Arriving, Awaits_lur, Breaks_off, Gives_denial, Gives_lci, Gives_lui, Judges, Over, Passes, Reads_file, Refuses_request, Requests, RowMove, RowView, UploadEnd, WholeRow, Writes_completion, Writes_lcl, Writes_lcs, Writes_progress, Writes_ready, Writes_stop, placed_view, placed_view_if, row_view, view_judged, view_judged_in, view_moved, with_file_view, with_header_view}
-use Rattle.session_rules.specs.Uploads.{Accepts_file, Accepts_header, Complete, Judgement, More_files, Next, Next_load, OpenLoadView, Stops_for, UploadView, next_name, next_wanted}
+use Rattle.session_rules.specs.TargetRows.{Awaits_lur, Gives_denial, Gives_lci, Gives_lui, Over, Reads_file, RowView, UploadEnd, WholeRow, Writes_completion, Writes_lcl, Writes_lcs, Writes_progress, Writes_ready, Writes_stop, row_view}
 
 -- ---- the bytes of a status
 
@@ -183,18 +182,6 @@ pub record IsOwnReply (sequence : ℕ) (file : List ℕ) : Type 0 where
   pub denies : IsDenial file → file ≡ denying_lui
   pub given : IsGiven file
 
-lci_size : length lci_file ≤ 4294967295
-unfolding lci_file file_fields number_bytes
-lci_size = let e : length lci_file ≡ 9 = refl in omega (arith, e)
-
-accepting_size : length accepting_lui ≤ 4294967295
-unfolding accepting_lui file_fields number_bytes
-accepting_size = let e : length accepting_lui ≡ 9 = refl in omega (arith, e)
-
-denying_size : length denying_lui ≤ 4294967295
-unfolding denying_lui file_fields number_bytes
-denying_size = let e : length denying_lui ≡ 12 = refl in omega (arith, e)
-
 lci_reply : (sequence : ℕ) → IsOwnReply sequence lci_file
 lci_reply sequence = record {
   small = lci_size;
@@ -272,70 +259,12 @@ last_file upload (Some reason) e = record {
   stops = λ h. record { upload = upload; reason = reason; is = refl; why = e; writes = refl };
 }
 
--- the last LUS of an installation has no reason
-abbrev HasNoReason : RowView → Type 0
-HasNoReason (Writes_completion upload entries) = upload.reason ≡ None
-HasNoReason row = Unit {0}
-
-placed_reason : (u : UploadView) (l : OpenLoadView) (next : Next) → HasNoReason (placed_view u l next)
-placed_reason u l More_files = tt
-placed_reason u l Next_load = tt
-placed_reason u l Complete = refl
-
-placed_if_reason : (u : UploadView) (l : Option OpenLoadView) (next : Next) → HasNoReason (placed_view_if u l next)
-placed_if_reason u None next = tt
-placed_if_reason u (Some l) next = placed_reason u l next
-
-judged_reason : (u : UploadView) (arriving : Arriving) (judgement : Judgement) → HasNoReason (view_judged u arriving judgement)
-judged_reason u arriving (Stops_for reason n) = tt
-judged_reason u arriving (Accepts_header h next) = placed_if_reason u (with_header_view (next_wanted u) h arriving) next
-judged_reason u arriving (Accepts_file next) = placed_if_reason u (with_file_view u.current (next_name u) arriving) next
-
-passed_reason : (row : RowView) → HasNoReason (rows.row_after row)
-passed_reason Gives_lci = tt
-passed_reason Writes_lcs = tt
-passed_reason Writes_lcl = tt
-passed_reason Gives_lui = tt
-passed_reason Gives_denial = tt
-passed_reason Writes_ready = tt
-passed_reason Awaits_lur = tt
-passed_reason (Reads_file u) = tt
-passed_reason (Writes_progress u) = tt
-passed_reason (Writes_stop end) = tt
-passed_reason (Writes_completion end loads) = tt
-passed_reason Over = tt
-
-judged_in_reason : (row : RowView) (arriving : Arriving) (judgement : Judgement) → HasNoReason (view_judged_in row arriving judgement)
-judged_in_reason (Reads_file u) arriving judgement = judged_reason u arriving judgement
-judged_in_reason Gives_lci arriving judgement = tt
-judged_in_reason Writes_lcs arriving judgement = tt
-judged_in_reason Writes_lcl arriving judgement = tt
-judged_in_reason Gives_lui arriving judgement = tt
-judged_in_reason Gives_denial arriving judgement = tt
-judged_in_reason Writes_ready arriving judgement = tt
-judged_in_reason Awaits_lur arriving judgement = tt
-judged_in_reason (Writes_progress u) arriving judgement = tt
-judged_in_reason (Writes_stop end) arriving judgement = tt
-judged_in_reason (Writes_completion end loads) arriving judgement = tt
-judged_in_reason Over arriving judgement = tt
-
-moved_reason : (row : RowView) (arriving : Arriving) (move : RowMove) → HasNoReason (view_moved row arriving move)
-moved_reason row arriving Passes = passed_reason row
-moved_reason row arriving (Requests loads) = tt
-moved_reason row arriving (Refuses_request fault) = tt
-moved_reason row arriving (Judges judgement) = judged_in_reason row arriving judgement
-moved_reason row arriving Breaks_off = tt
-
 completion_file : (row : RowView) (upload : UploadEnd) → upload.reason ≡ None → IsRowFile row (target.last_lus upload upload.reason)
 completion_file row upload none =
     subst (λ (reason : Option Reason). IsRowFile row (target.last_lus upload reason)) (sym none)
     (no_stop_file row (completed_lus upload.request upload.reports) 0 3 (completed_status upload.request upload.reports) (λ f. cc) (λ f. cc) (completed_no_lcs upload.request upload.reports))
 
-abbrev written_file : Option Role → List ℕ
-written_file (Some (Writes name o file)) = file
-written_file role = []
-
-row_file : (v : target.TargetView) → BeginsWell v.active.identity.hw → (row : RowView) (name : List ℕ) (o : Options) (file : List ℕ) → HasNoReason row → target.row_request v row ≡ Some (Writes name o file) → IsRowFile row file
+row_file : (v : target.TargetView) → BeginsWell v.active.identity.hw → (row : RowView) (name : List ℕ) (o : Options) (file : List ℕ) → EndsForReason row → target.row_request v row ≡ Some (Writes name o file) → IsRowFile row file
 row_file v hw Writes_lcs name o file why e = subst (λ (x : List ℕ). IsRowFile Writes_lcs x) (ap written_file e) (no_stop_file Writes_lcs lcs_file 0 1 lcs_status (λ f. cc) (λ f. cc) (λ h. first_not lcs_file 0 2 lcs_lcs h (λ f. cc)))
 row_file v hw Writes_lcl name o file why e = subst (λ (x : List ℕ). IsRowFile Writes_lcl x) (ap written_file e) (no_stop_file Writes_lcl (lcl_file v.active) 0 1 (lcl_status v.active) (λ f. cc) (λ f. cc) (lcl_no_lcs v.active hw))
 row_file v hw Writes_ready name o file why e = subst (λ (x : List ℕ). IsRowFile Writes_ready x) (ap written_file e) (no_stop_file Writes_ready ready_lus 0 1 ready_status (λ f. cc) (λ f. cc) (λ h. first_not ready_lus 0 0 ready_lcs h (λ f. cc)))
@@ -393,7 +322,7 @@ module _ (joins : SumsJoin) (accepts : Accepts) (r : TargetReading) (e : Event) 
   written_tells : (name : List ℕ) (o : Options) (file : List ℕ) → IsAskedByRow accepts r e (Writes name o file) → TellsCause accepts r e (Writes name o file)
   written_tells name o file h =
       let row : RowView = seen_row h.session in
-      let is = row_file v_now hw row name o file (subst HasNoReason (sym h.turned) (moved_reason h.was h.kept h.move)) h.asks in
+      let is = row_file v_now hw row name o file (subst EndsForReason (sym h.turned) (moved_reason h.was h.kept h.move)) h.asks in
       (is.no_denial, is.no_lcs, λ stop. stops_so file h row refl (is.stops stop))
     where
       stops_so : (file : List ℕ) (h : IsAskedByRow accepts r e (Writes name o file)) (row : RowView) → seen_row h.session ≡ row → RowStops row file → StopsNow accepts (target_extended accepts r e) file

@@ -226,7 +226,7 @@ sender_not s (Data k b) = dropped_not
 sender_not s (Rrq name o) = dropped_not
 sender_not s (Wrq name o) = dropped_not
 
-last_received : (role : Role) (got : List PacketView) (p : PacketView) (more : List ℕ) → end_answer (end_of role got) p ≡ TakesLast more → (is_receiving role ≡ true) × (is_received (end_of role (got ++ p ∷ [])) ≡ true)
+pub last_received : (role : Role) (got : List PacketView) (p : PacketView) (more : List ℕ) → end_answer (end_of role got) p ≡ TakesLast more → (is_receiving role ≡ true) × (is_received (end_of role (got ++ p ∷ [])) ≡ true)
 last_received (ServesWrite name o) got p more e = (
   refl,
   ap is_received (end_of_more (ServesWrite name o) got p) ∙ ap (λ (answer : Answer). is_received (end_moved (end_of (ServesWrite name o) got) answer)) e
@@ -304,15 +304,15 @@ own_says_not A kinds.Lcs sequence says = other_status A lci_file 0 1 lci_status 
 own_says_not A kinds.Lur sequence says = other_status A lci_file 0 1 lci_status refl says
 own_says_not A kinds.Lus sequence says = other_status A lci_file 0 1 lci_status refl says
 
-lci_size : length lci_file ≤ 4294967295
+pub lci_size : length lci_file ≤ 4294967295
 unfolding lci_file file_fields number_bytes
 lci_size = let e : length lci_file ≡ 9 = refl in omega (arith, e)
 
-accepting_size : length accepting_lui ≤ 4294967295
+pub accepting_size : length accepting_lui ≤ 4294967295
 unfolding accepting_lui file_fields number_bytes
 accepting_size = let e : length accepting_lui ≡ 9 = refl in omega (arith, e)
 
-denying_size : length denying_lui ≤ 4294967295
+pub denying_size : length denying_lui ≤ 4294967295
 unfolding denying_lui file_fields number_bytes
 denying_size = let e : length denying_lui ≡ 12 = refl in omega (arith, e)
 
@@ -332,30 +332,31 @@ own_size kinds.Lus sequence = lci_size
 abbrev Completes_row : RowView → Type 0
 Completes_row row = (end : UploadEnd) × (entries : List LoadEntry) × (row ≡ Writes_completion end entries)
 
-abbrev written_file : Option Role → List ℕ
+abbrev pub written_file : Option Role → List ℕ
 written_file (Some (Writes name o file)) = file
 written_file role = []
 
--- a row to which a session turns stops an upload for a reason
-abbrev HasReason : RowView → Type 0
-HasReason (Writes_stop end) = end.reason ≡ None → ⊥
-HasReason row = Unit {0}
+-- where a session turns to the end of an upload, it is stopped for a reason, and completed without one
+abbrev pub EndsForReason : RowView → Type 0
+EndsForReason (Writes_stop end) = end.reason ≡ None → ⊥
+EndsForReason (Writes_completion end entries) = end.reason ≡ None
+EndsForReason row = Unit {0}
 
-placed_reason : (u : UploadView) (l : OpenLoadView) (next : Next) → HasReason (placed_view u l next)
+placed_reason : (u : UploadView) (l : OpenLoadView) (next : Next) → EndsForReason (placed_view u l next)
 placed_reason u l More_files = tt
 placed_reason u l Next_load = tt
-placed_reason u l Complete = tt
+placed_reason u l Complete = refl
 
-placed_if_reason : (u : UploadView) (l : Option OpenLoadView) (next : Next) → HasReason (placed_view_if u l next)
+placed_if_reason : (u : UploadView) (l : Option OpenLoadView) (next : Next) → EndsForReason (placed_view_if u l next)
 placed_if_reason u None next = tt
 placed_if_reason u (Some l) next = placed_reason u l next
 
-judged_reason : (u : UploadView) (arriving : Arriving) (judgement : Judgement) → HasReason (view_judged u arriving judgement)
+judged_reason : (u : UploadView) (arriving : Arriving) (judgement : Judgement) → EndsForReason (view_judged u arriving judgement)
 judged_reason u arriving (Stops_for reason n) = λ e. cc
 judged_reason u arriving (Accepts_header h next) = placed_if_reason u (with_header_view (next_wanted u) h arriving) next
 judged_reason u arriving (Accepts_file next) = placed_if_reason u (with_file_view u.current (next_name u) arriving) next
 
-passed_reason : (row : RowView) → HasReason (rows.row_after row)
+passed_reason : (row : RowView) → EndsForReason (rows.row_after row)
 passed_reason Gives_lci = tt
 passed_reason Writes_lcs = tt
 passed_reason Writes_lcl = tt
@@ -369,7 +370,7 @@ passed_reason (Writes_stop end) = tt
 passed_reason (Writes_completion end loads) = tt
 passed_reason Over = tt
 
-judged_in_reason : (row : RowView) (arriving : Arriving) (judgement : Judgement) → HasReason (view_judged_in row arriving judgement)
+judged_in_reason : (row : RowView) (arriving : Arriving) (judgement : Judgement) → EndsForReason (view_judged_in row arriving judgement)
 judged_in_reason (Reads_file u) arriving judgement = judged_reason u arriving judgement
 judged_in_reason Gives_lci arriving judgement = tt
 judged_in_reason Writes_lcs arriving judgement = tt
@@ -383,7 +384,7 @@ judged_in_reason (Writes_stop end) arriving judgement = tt
 judged_in_reason (Writes_completion end loads) arriving judgement = tt
 judged_in_reason Over arriving judgement = tt
 
-moved_reason : (row : RowView) (arriving : Arriving) (move : RowMove) → HasReason (view_moved row arriving move)
+pub moved_reason : (row : RowView) (arriving : Arriving) (move : RowMove) → EndsForReason (view_moved row arriving move)
 moved_reason row arriving Passes = passed_reason row
 moved_reason row arriving (Requests loads) = tt
 moved_reason row arriving (Refuses_request fault) = λ e. cc
@@ -394,7 +395,7 @@ stop_says_not : (end : UploadEnd) (reason : Option Reason) → (reason ≡ None 
 stop_says_not end None some says = some refl
 stop_says_not end (Some reason) some says = other_status ⊥ (stopped_lus end.request end.arrived end.reports reason) 16 3 (stopped_status end.request end.arrived end.reports reason) refl says
 
-row_says : (v : target.TargetView) (row : RowView) (name : List ℕ) (o : Options) (file : List ℕ) → HasReason row → target.row_request v row ≡ Some (Writes name o file) → SaysCompleted file → Completes_row row
+row_says : (v : target.TargetView) (row : RowView) (name : List ℕ) (o : Options) (file : List ℕ) → EndsForReason row → target.row_request v row ≡ Some (Writes name o file) → SaysCompleted file → Completes_row row
 row_says v Writes_lcs name o file why e says = other_status _ lcs_file 0 1 lcs_status refl (subst SaysCompleted (sym (ap written_file e)) says)
 row_says v Writes_lcl name o file why e says = other_status _ (lcl_file v.active) 0 1 (lcl_status v.active) refl (subst SaysCompleted (sym (ap written_file e)) says)
 row_says v Writes_ready name o file why e says = other_status _ ready_lus 0 1 ready_status refl (subst SaysCompleted (sym (ap written_file e)) says)

@@ -366,7 +366,7 @@ IsInfoRow Takes_lcs = Unit {0}
 IsInfoRow Takes_lcl = Unit {0}
 IsInfoRow row = ⊥
 
-info_after : (row : LoaderRow) → IsInfoRow row → IsInfoRow (row_after row)
+pub info_after : (row : LoaderRow) → IsInfoRow row → IsInfoRow (row_after row)
 info_after Reads_lci h = tt
 info_after Takes_lcs h = tt
 info_after Takes_lcl h = tt
