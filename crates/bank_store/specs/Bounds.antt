@@ -1,6 +1,7 @@
 -- What each store keeps to (docs/DISK.md).
-use Rattle.std.specs.Prelude.{◌≡◌, ◌≢◌, ℕ, ◌+◌, ◌*◌, ◌<◌, ◌≤◌, Bool, false, [], length}
+use Rattle.std.specs.Prelude.{◌≡◌, ◌≢◌, ℕ, ◌+◌, ◌*◌, ◌<◌, ◌≤◌, Bool, false, [], length, Result, IfErr}
 use Rattle.load_base.specs.Listed.{Listed}
+use Rattle.disk_model.specs.declared.disk.DiskFault.{DiskFault}
 use Rattle.disk_layout.specs.Offsets.{IsBankSize, most_loads, most_files, longest_manifest}
 use Rattle.disk_layout.specs.Slots.{IsManifestRange}
 use Rattle.disk_layout.specs.declared.active.Active.{Active}
@@ -31,6 +32,11 @@ pub record IsFillingInRange (size : ℕ) (body : Listed ℕ) (progress : Filling
 -- these bytes can become those of a longest manifest without memory
 abbrev pub HasCapacity : Listed ℕ → Type 0
 HasCapacity bytes = longest_manifest ≤ bytes.spare + length bytes.items
+
+-- the bytes keep capacity for those of a longest manifest, and where a read is refused none of them is kept
+pub record KeepsCapacity {T : Type 0} (bytes : Listed ℕ) (result : Result T DiskFault) : Type 0 where
+  pub capacity : HasCapacity bytes
+  pub refused : IfErr result (λ fault. bytes.items ≡ [])
 
 -- a begun installation has shut the other gate, can count on, and has capacity for its manifest, and for the next one
 pub record InstallationHasBegun (sequence : ℕ) (known : Listed ℕ) (other_is_open : Bool) (body : Listed ℕ) : Type 0 where

@@ -2,7 +2,8 @@
 use Rattle.std.specs.Prelude.{◌≡◌, ◌⊎◌, ℕ, ◌<◌, ◌≤◌, true, false, Result, Ok, Err, is_some, OnOk, IsErrOf}
 use Rattle.load_base.specs.Counts.{Rose}
 use Rattle.disk_model.specs.Image.{Image}
-use Rattle.disk_model.specs.State.{DiskState, KeepsCounts, KeepsPower}
+use Rattle.disk_model.specs.State.{DiskState, HasCause, KeepsCounts, KeepsPower, OnlyReads}
+use Rattle.disk_model.specs.declared.disk.DiskFault.{DiskFault}
 use Rattle.disk_layout.specs.DiskReads.{HasDiskCause}
 use Rattle.bank_store.specs.declared.fault.StoreFault.{StoreFault}
 use Rattle.bank_store.specs.declared.fault.StoreFault.TheVariants.{DiskFailed, Memory}
@@ -35,6 +36,12 @@ pub record WritesDisk {T : Type 0} (old new : DiskState) (result : Result T Stor
   pub cause : HasDiskCause DiskFailed old new result
   pub memory : IsErrOf result Memory → Rose old.refusals new.refusals × (new.stopped ≡ true)
   pub counts : OnOk result (KeepsCounts old new)
+
+-- Nothing is written, each refusal of the disk has its cause, and with Ok the same is read as before.
+pub record ReadsUnchanged {T : Type 0} (old new : DiskState) (result : Result T DiskFault) : Type 0 where
+  pub kept : OnOk result (new.reads ≡ old.reads)
+  pub only_reads : OnlyReads old new
+  pub cause : HasCause old new result
 
 -- A power loss within these calls may leave nothing new but images with this property, and may leave no other now.
 pub record AddsOnly (old new : DiskState) (P : Image → Type 0) : Type 0 where

@@ -7,4 +7,5 @@ pub mod Given
 pub mod Keeps
 pub mod Known
 pub mod Readopting
+pub mod Refusals
 pub mod Store

@@ -9,6 +9,8 @@ use Rattle.disk_layout.specs.Contents.{HeadersAreFirst, contents_of_loads, entri
 use Rattle.disk_layout.specs.Holds.{StandingView}
 use Rattle.disk_layout.specs.Manifest.{manifest, total_length}
 use Rattle.disk_layout.specs.Offsets.{longest_manifest}
+use Rattle.disk_layout.specs.Slots.{IsManifestRange}
+use Rattle.bank_store.specs.Bounds.{largest_bank}
 use Rattle.bank_store.specs.Fits.{HoldsFor, IsReady}
 use Rattle.bank_store.specs.Store.{IsSealedAt, with_slot, work_at}
 use Rattle.bank_store.specs.declared.store.Store.{Store}
@@ -21,6 +23,12 @@ pub record HasLoadsAt (store : Store) (image : Image) (place size : ℕ) (loads 
   pub lengths : total_length (entries_of loads) ≡ place
   pub headers : HeadersAreFirst loads
   pub contents : contents_of_loads loads ≡ range image (work_at store) place
+
+-- A manifest that can be named again: its range lies on the disk, also where that tells no content, and it stands there with
+-- the contents of its loads.
+pub record CanReadopt (store : Store) (disk : DiskState) (place size : ℕ) : Type 0 where
+  pub range : IsManifestRange largest_bank (record { offset = place; length = size })
+  pub manifest : ForSome disk.reads (λ image. (loads : List LoadView) × HasLoadsAt store image place size loads)
 
 -- The other slot names the manifest at this place again, with the next sequence number, and all but its gate.
 pub record Readopts (before after : Store) (old new : DiskState) (place size : ℕ) : Type 0 where

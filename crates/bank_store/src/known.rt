@@ -1,15 +1,14 @@
 //! What a manifest that stands on a disk says of its loads.
-ghost use Rattle.std.specs.Prelude.{◌≡◌, ◌+◌, ◌≤◌, ◌↔◌, [], List, take, IfErr, IsTrue, OnOk};
+ghost use Rattle.std.specs.Prelude.{◌≡◌, ◌+◌, ◌≤◌, ◌↔◌, [], List, take, IsTrue, OnOk};
 ghost use Rattle.std.specs.Option.{ForSome};
 ghost use Rattle.field_grammar.specs.Fields.{number_bytes};
 ghost use Rattle.field_grammar.specs.Grammar.{Spelled};
 ghost use Rattle.disk_model.specs.Image.{range};
-ghost use Rattle.disk_model.specs.State.{HasCause, OnlyReads};
 ghost use Rattle.disk_layout.specs.Entries.{entry_bytes, typed_loads};
 ghost use Rattle.disk_layout.specs.Manifest.{LoadEntry, manifest};
 ghost use Rattle.disk_layout.specs.Offsets.{layout_mark, longest_manifest};
-ghost use Rattle.bank_store.specs.Bounds.{HasCapacity};
-ghost use Rattle.bank_store.specs.DiskWrites.{IsRunning};
+ghost use Rattle.bank_store.specs.Bounds.{HasCapacity, KeepsCapacity};
+ghost use Rattle.bank_store.specs.DiskWrites.{IsRunning, ReadsUnchanged};
 
 use disk_layout::numbers::u16_bytes;
 use disk_layout::offsets::LAYOUT_MARK;
@@ -40,11 +39,8 @@ pub(crate) fn read_entries<K: Disk>(
     ensures said { OnOk result (ForSome (K.state disk.old).reads (λ image.
         (loads : List LoadEntry) → Spelled manifest (range image at length) loads
         → known.new.items ≡ entry_bytes (typed_loads loads))) }
-    ensures capacity { HasCapacity known.new }
-    ensures refused { IfErr result (λ fault. known.new.items ≡ []) }
-    ensures kept { OnOk result ((K.state disk.new).reads ≡ (K.state disk.old).reads) }
-    ensures only_reads { OnlyReads (K.state disk.old) (K.state disk.new) }
-    ensures cause { HasCause (K.state disk.old) (K.state disk.new) result }
+    ensures stays { KeepsCapacity known.new result }
+    ensures reads { ReadsUnchanged (K.state disk.old) (K.state disk.new) result }
 {
     if length < HEAD as u32 {
         return Ok(());
@@ -74,11 +70,8 @@ fn read_all<K: Disk>(disk: &mut K, at: u32, count: u32, bytes: &mut Bytes) -> Re
     requires running { IsRunning (K.state disk.old) }
     ensures bytes { OnOk result (ForSome (K.state disk.old).reads
         (λ image. bytes.new.items ≡ range image at count)) }
-    ensures capacity { HasCapacity bytes.new }
-    ensures refused { IfErr result (λ fault. bytes.new.items ≡ []) }
-    ensures kept { OnOk result ((K.state disk.new).reads ≡ (K.state disk.old).reads) }
-    ensures only_reads { OnlyReads (K.state disk.old) (K.state disk.new) }
-    ensures cause { HasCause (K.state disk.old) (K.state disk.new) result }
+    ensures stays { KeepsCapacity bytes.new result }
+    ensures reads { ReadsUnchanged (K.state disk.old) (K.state disk.new) result }
 {
     let mut piece = [0; PIECE];
     let mut done = 0;

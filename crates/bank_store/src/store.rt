@@ -1,7 +1,7 @@
 //! Installs a configuration into the bank that isn't active.
-ghost use Rattle.std.specs.Prelude.{◌≡◌, ◌⊎◌, ℕ, ◌+◌, ◌-◌, ◌<◌, ◌≤◌, ◌↔◌, List, [], ◌++◌};
+ghost use Rattle.std.specs.Prelude.{◌≡◌, ◌+◌, ◌-◌, ◌<◌, ◌≤◌, List, [], ◌++◌};
 ghost use Rattle.std.specs.Prelude.{false, true};
-ghost use Rattle.std.specs.Prelude.{Some, length, IsOk, IfErr, OnOk, IsErrOf};
+ghost use Rattle.std.specs.Prelude.{Some, length, IsOk, IfErr, OnOk};
 ghost use Rattle.std.specs.Option.{ForSome};
 ghost use Rattle.load_base.specs.Config.{LoadView};
 ghost use Rattle.field_grammar.specs.Fields.{number_bytes};
@@ -10,11 +10,10 @@ ghost use Rattle.disk_model.specs.Moments.{LeavesOnly};
 ghost use Rattle.disk_model.specs.State.{HasCause};
 ghost use Rattle.disk_layout.specs.Offsets.{IsBankSize, most_files, most_loads};
 ghost use Rattle.disk_layout.specs.Holds.{StandingView};
-ghost use Rattle.bank_store.specs.declared.fault.StoreFault.TheVariants.{BankFull, SequenceSpent};
 ghost use Rattle.bank_store.specs.declared.fault.StoreFault.TheVariants.{Memory};
 ghost use Rattle.bank_store.specs.declared.stage.Filling.{Filling};
 ghost use Rattle.disk_layout.specs.Slots.{IsManifestRange};
-ghost use Rattle.bank_store.specs.Bounds.{IsStore, largest_bank, longest_load};
+ghost use Rattle.bank_store.specs.Bounds.{IsStore, largest_bank};
 
 use crate::fault::StoreFault;
 use crate::head::head_of;
@@ -58,7 +57,7 @@ impl Store {
     ghost use Rattle.bank_store.specs.Store.{bank_size_of, active_of, active_slot, active_bank};
     ghost use Rattle.bank_store.specs.Store.{active_sequence, is_other_open, stage_of};
     ghost use Rattle.bank_store.specs.Store.{SameActive, IsIdle, IsFilling, IsSealed, IsPrepared};
-    ghost use Rattle.bank_store.specs.Store.{IsSpent, IsBetweenLoads, AwaitsLoad, AwaitsFile};
+    ghost use Rattle.bank_store.specs.Store.{IsBetweenLoads, AwaitsLoad, AwaitsFile};
     ghost use Rattle.bank_store.specs.Store.{AwaitsEnd, PassesBank, spare_of, load_announced};
     ghost use Rattle.bank_store.specs.Store.{file_ended, manifest_length, slot_body};
     ghost use Rattle.bank_store.specs.Store.{with_gate_shut, with_manifest, with_slot};
@@ -71,9 +70,11 @@ impl Store {
     ghost use Rattle.bank_store.specs.Keeps.{KeepsLoad};
     ghost use Rattle.bank_store.specs.Keeps.{LeavesActive, LeavesRest, IsShutFor, KeepsNear};
     ghost use Rattle.bank_store.specs.Keeps.{IsOldOrNew};
-    ghost use Rattle.bank_store.specs.DiskWrites.{WritesDisk, AddsOnly, TimeGoesOn, IsAnswered};
+    ghost use Rattle.bank_store.specs.DiskWrites.{WritesDisk, AddsOnly, TimeGoesOn};
     ghost use Rattle.bank_store.specs.DiskWrites.{IsRunning};
-    ghost use Rattle.bank_store.specs.Readopting.{HasLoadsAt, Readopts};
+    ghost use Rattle.bank_store.specs.Known.{KnowsEntryAt};
+    ghost use Rattle.bank_store.specs.Readopting.{CanReadopt, Readopts};
+    ghost use Rattle.bank_store.specs.Refusals.{OnlyFails, RefusesToBegin, RefusesTooMuch};
     ghost use Rattle.disk_layout.specs.Slots.{other_slot};
 
     /// A store for a disk with banks of `size` bytes on which this is active, with a manifest that
@@ -127,10 +128,7 @@ impl Store {
         ensures begins { OnOk result (Begins self.old self.new (K.state disk.old)
             (K.state disk.new)) }
         // Refusals.
-        ensures spent { IsErrOf result SequenceSpent ↔ IsSpent self.old }
-        ensures untouched { IsErrOf result SequenceSpent → disk.new ≡ disk.old }
-        ensures not_full { (need have : ℕ) → ¬ IsErrOf result (BankFull need have) }
-        ensures refused { IfErr result (λ fault. self.new ≡ self.old) }
+        ensures refuses { RefusesToBegin self.old self.new disk.old disk.new result }
         // Whatever it answers.
         ensures clock { OnOk result ((K.state disk.old).clock < (K.state disk.new).clock) }
         ensures writes_disk { WritesDisk (K.state disk.old) (K.state disk.new) result }
@@ -215,13 +213,8 @@ impl Store {
             (K.state disk.new) bytes.now) }
         ensures nothing { bytes.now ≡ [] → disk.new ≡ disk.old }
         // Refusals.
-        ensures full { (need have : ℕ)
-            → IsErrOf result (BankFull need have)
-            ↔ PassesBank self.old (length bytes.now) need have }
-        ensures untouched { (need have : ℕ) → IsErrOf result (BankFull need have)
-            → disk.new ≡ disk.old }
-        ensures not_spent { ¬ IsErrOf result SequenceSpent }
-        ensures refused { IfErr result (λ fault. self.new ≡ self.old) }
+        ensures refuses { RefusesTooMuch (PassesBank self.old (length bytes.now)) self.old self.new
+            disk.old disk.new result }
         // Whatever it answers.
         ensures writes_disk { WritesDisk (K.state disk.old) (K.state disk.new) result }
         ensures keeps { Keeps self.old self.new (K.state disk.old) (K.state disk.new) result }
@@ -292,13 +285,8 @@ impl Store {
         ensures keeps_load { OnOk result (KeepsLoad self.old self.new (K.state disk.old)
             (K.state disk.new) load) }
         // Refusals.
-        ensures full { (need have : ℕ)
-            → IsErrOf result (BankFull need have)
-            ↔ PassesByKept self.old load need have }
-        ensures untouched { (need have : ℕ) → IsErrOf result (BankFull need have)
-            → disk.new ≡ disk.old }
-        ensures not_spent { ¬ IsErrOf result SequenceSpent }
-        ensures refused { IfErr result (λ fault. self.new ≡ self.old) }
+        ensures refuses { RefusesTooMuch (PassesByKept self.old load) self.old self.new disk.old
+            disk.new result }
         // Whatever it answers.
         ensures writes_disk { WritesDisk (K.state disk.old) (K.state disk.new) result }
         ensures keeps { Keeps self.old self.new (K.state disk.old) (K.state disk.new) result }
@@ -328,8 +316,7 @@ impl Store {
         requires filling { IsFilling self.old progress }
         requires between { (progress.loads < most_loads) × (progress.missing ≡ 0) }
         requires room { progress.end + count ≤ bank_size_of self.old }
-        requires within { place.entry + place.entry_length ≤ length (known_of self.old) }
-        requires short { place.entry_length ≤ longest_load }
+        requires entry { KnowsEntryAt self.old place }
         ensures filling { IsFilling self.new (load_kept count progress) }
         ensures body { body_of self.new ≡ body_of self.old ++ knows_entry self.old place }
         ensures active { SameActive self.old self.new }
@@ -408,13 +395,8 @@ impl Store {
         ensures seals { OnOk result (Seals self.old self.new (K.state disk.old)
             (K.state disk.new)) }
         // Refusals.
-        ensures full { (need have : ℕ)
-            → IsErrOf result (BankFull need have)
-            ↔ PassesBank self.old (manifest_length self.old) need have }
-        ensures untouched { (need have : ℕ) → IsErrOf result (BankFull need have)
-            → disk.new ≡ disk.old }
-        ensures not_spent { ¬ IsErrOf result SequenceSpent }
-        ensures refused { IfErr result (λ fault. self.new ≡ self.old) }
+        ensures refuses { RefusesTooMuch (PassesBank self.old (manifest_length self.old)) self.old
+            self.new disk.old disk.new result }
         // Whatever it answers.
         ensures clock { OnOk result ((K.state disk.old).clock < (K.state disk.new).clock) }
         ensures writes_disk { WritesDisk (K.state disk.old) (K.state disk.new) result }
@@ -454,16 +436,13 @@ impl Store {
         length: u32,
     ) -> Result<(), StoreFault>
         requires filling { IsFilling self.old nothing_filled }
-        requires range { IsManifestRange largest_bank (record { offset = place; length = length }) }
-        requires manifest { ForSome (K.state disk.old).reads (λ image.
-            (loads : List LoadView) × HasLoadsAt self.old image place length loads) }
+        requires manifest { CanReadopt self.old (K.state disk.old) place length }
         requires running { IsRunning (K.state disk.old) }
         // With Ok.
         ensures readopts { OnOk result (Readopts self.old self.new (K.state disk.old)
             (K.state disk.new) place length) }
         // Refusals.
-        ensures only_failures { IsOk result ⊎ ¬ IsAnswered result }
-        ensures refused { IfErr result (λ fault. IsFilling self.new nothing_filled
+        ensures refuses { OnlyFails result (IsFilling self.new nothing_filled
             × Continues self.old self.new) }
         // Whatever it answers.
         ensures clock { OnOk result ((K.state disk.old).clock < (K.state disk.new).clock) }
@@ -540,8 +519,7 @@ impl Store {
         ensures activates { OnOk result (Activates self.old self.new (K.state disk.old)
             (K.state disk.new)) }
         // Refusals.
-        ensures only_failures { IsOk result ⊎ ¬ IsAnswered result }
-        ensures refused { IfErr result (λ fault. self.new ≡ self.old) }
+        ensures refuses { OnlyFails result (self.new ≡ self.old) }
         // Whatever it answers.
         ensures any_moment { (s : StandingView) (loads : List LoadView)
             → CanActivate self.old (K.state disk.old) s loads

@@ -14,7 +14,7 @@ returns-then-not-is_kept_beside-clause-gives g c = λ s given is front back one 
 pub down-requires : goal.down-requires
 down-requires g c =
     let can = c.requires.can (sym c.is_kept_beside.ensures ∙ c.if-not-is_kept_beside.false) in
-    fails c.in-Err.fault (λ need have is. keeps_within c.args.store.now c.args.number (entry_view c.args.load.now) can need have ((c.in-Err.ensures.full need have).0 (ap Err is))) (λ is. c.in-Err.ensures.not_spent (ap Err is))
+    fails c.in-Err.fault (λ need have is. keeps_within c.args.store.now c.args.number (entry_view c.args.load.now) can need have ((c.in-Err.ensures.refuses.full need have).0 (ap Err is))) (λ is. c.in-Err.ensures.refuses.not_spent (ap Err is))
 
 pub returns-in-Ok-clause-has : goal.returns-in-Ok-clause-has
 returns-in-Ok-clause-has g c = λ loads has.

@@ -6,7 +6,7 @@ use Rattle.load_intake.proofs.storing.seal.Goals as goal
 
 pub down-requires : goal.down-requires
 down-requires g c =
-    fails c.in-Err.fault (λ need have is. within c.args.store.now (manifest_length c.args.store.now) c.requires.room need have ((c.in-Err.ensures.full need have).0 (ap Err is))) (λ is. c.in-Err.ensures.not_spent (ap Err is))
+    fails c.in-Err.fault (λ need have is. within c.args.store.now (manifest_length c.args.store.now) c.requires.room need have ((c.in-Err.ensures.refuses.full need have).0 (ap Err is))) (λ is. c.in-Err.ensures.refuses.not_spent (ap Err is))
 
 pub returns-in-Ok-clause-seals : goal.returns-in-Ok-clause-seals
 returns-in-Ok-clause-seals g c = λ s given is.

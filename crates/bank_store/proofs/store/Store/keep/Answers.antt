@@ -24,22 +24,27 @@ returns-in_err-copy-clause-keeps g c =
     (λ s beside. holds_still store disk _ beside.image s beside.holds
     (near_then store disk disk _ beside.image (near_start store disk beside.image beside.works beside.told) c.copy.ensures.near)))
 
-pub returns-then-need-from-clause-full : goal.returns-then-need-from-clause-full
-returns-then-need-from-clause-full g c need have =
+pub returns-then-need-from-clause-refuses : goal.returns-then-need-from-clause-refuses
+returns-then-need-from-clause-refuses g c =
     let stands : IsPlaceOf c.args.self.now c.args.load c.find_load-place.result =
     λ before behind entry says at. c.find_load-place.ensures.place before behind entry (rw c.as_slice.ensures says) (omega (arith, at)) in
-    passes_by c.args.self.now c.args.load c.find_load-place.result c.in-Filling.progress _ _ c.requires.known stands c.in-Filling.is (ap (λ (n : ℕ). n + c.find_load-place.result.files_length) c.from.ensures)
-    refl (omega (arith, c.if-need-from.true, c.from-2.ensures)) need have
+    record {
+      full = λ need have.
+          passes_by c.args.self.now c.args.load c.find_load-place.result c.in-Filling.progress _ _ c.requires.known stands c.in-Filling.is (ap (λ (n : ℕ). n + c.find_load-place.result.files_length) c.from.ensures)
+          refl (omega (arith, c.if-need-from.true, c.from-2.ensures)) need have;
+      untouched = λ need have is. refl;
+      not_spent = search rules;
+      unchanged = refl;
+    }
 
-pub add_entry-requires-clause-within : goal.add_entry-requires-clause-within
-add_entry-requires-clause-within g c =
-    place_within c.args.self.now c.args.load c.find_load-place.result c.requires.known
-    (λ before behind entry says at. c.find_load-place.ensures.place before behind entry (rw c.as_slice.ensures says) (omega (arith, at)))
-
-pub add_entry-requires-clause-short : goal.add_entry-requires-clause-short
-add_entry-requires-clause-short g c =
-    place_short c.args.self.now c.args.load c.find_load-place.result c.requires.known
-    (λ before behind entry says at. c.find_load-place.ensures.place before behind entry (rw c.as_slice.ensures says) (omega (arith, at)))
+pub add_entry-requires-clause-entry : goal.add_entry-requires-clause-entry
+add_entry-requires-clause-entry g c =
+    let stands : IsPlaceOf c.args.self.now c.args.load c.find_load-place.result =
+    λ before behind entry says at. c.find_load-place.ensures.place before behind entry (rw c.as_slice.ensures says) (omega (arith, at)) in
+    record {
+      within = place_within c.args.self.now c.args.load c.find_load-place.result c.requires.known stands;
+      short = place_short c.args.self.now c.args.load c.find_load-place.result c.requires.known stands;
+    }
 
 pub returns-clause-keeps_load : goal.returns-clause-keeps_load
 returns-clause-keeps_load g c =

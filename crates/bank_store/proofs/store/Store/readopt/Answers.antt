@@ -37,19 +37,19 @@ returns-in_err-read_entries-clause-keeps g c =
     let p = err_from_is_err_and c.from_residual-in_err-read_entries.result c.from_residual-in_err-read_entries.ensures.1 in rw (p.1, p.2)
     (keeps_active store _ disk _ _ (record { size = refl; active = refl; known = refl })
     (λ s beside. holds_still store disk _ beside.image s beside.holds (adds_read disk _ _ (SameButForWork store beside.image) (adds_sync disk _ _ (SameButForWork store beside.image) _
-    (near_then store disk disk _ beside.image (near_start store disk beside.image beside.works beside.told) c.write_slot.ensures.near) c.sync.ensures.elapses) c.read_entries.ensures.only_reads)))
+    (near_then store disk disk _ beside.image (near_start store disk beside.image beside.works beside.told) c.write_slot.ensures.near) c.sync.ensures.elapses) c.read_entries.ensures.reads.only_reads)))
 
 pub returns-clause-readopts : goal.returns-clause-readopts
 returns-clause-readopts g c =
     let store = c.args.self.now in record {
       sealed = refl;
-      written = λ image told. c.in_ok-read_entries.ensures.kept ∙ c.in_ok-sync.ensures.kept ∙ c.in_ok-write_slot.ensures.written image told;
+      written = λ image told. c.in_ok-read_entries.ensures.reads.kept ∙ c.in_ok-sync.ensures.kept ∙ c.in_ok-write_slot.ensures.written image told;
       ready = λ image told now later s loads was has.
           let there = c.in_ok-sync.ensures.kept ∙ c.in_ok-write_slot.ensures.written image told in
-          ready_again store _ c.args.place c.args.length image now s loads (record { size = refl; active = refl; known = refl }) refl (same_image now _ (sym later ∙ c.in_ok-read_entries.ensures.kept ∙ there))
+          ready_again store _ c.args.place c.args.length image now s loads (record { size = refl; active = refl; known = refl }) refl (same_image now _ (sym later ∙ c.in_ok-read_entries.ensures.reads.kept ∙ there))
           (counts_on store c.requires.filling) was has
           (c.in_ok-read_entries.ensures.said (with_slot store c.args.place c.args.length image) there (entries_of loads) (manifest_stays store c.args.place c.args.length image loads _ c.work.ensures.offset has));
-      settled = settled_on _ _ c.in_ok-sync.ensures.settled c.read_entries.ensures.only_reads c.in_ok-read_entries.ensures.kept;
+      settled = settled_on _ _ c.in_ok-sync.ensures.settled c.read_entries.ensures.reads.only_reads c.in_ok-read_entries.ensures.reads.kept;
     }
 
 pub returns-clause-keeps : goal.returns-clause-keeps
@@ -61,11 +61,11 @@ returns-clause-keeps g c =
     let is : (image now : Image) → disk.reads ≡ Some image → (g.K.Disk.state c.read_entries.new.disk).reads ≡ Some now → now ≡ with_slot store c.args.place c.args.length image =
     λ image now told later. same_image now _ (sym later ∙ readopts.written image told) in
     keeps_written store _ disk _ _ (record { size = refl; active = refl; known = refl }) refl (search rules)
-    (c.read_entries.ensures.only_reads.tells ∙ c.sync.ensures.elapses.tells ∙ c.write_slot.ensures.goes_on.tells) (g.met.K.Disk.reads_now c.read_entries.new.disk)
+    (c.read_entries.ensures.reads.only_reads.tells ∙ c.sync.ensures.elapses.tells ∙ c.write_slot.ensures.goes_on.tells) (g.met.K.Disk.reads_now c.read_entries.new.disk)
     (λ image works told. adds_read disk _ _ (SameButForWork store image) (adds_sync disk _ _ (SameButForWork store image) _
-    (near_then store disk disk _ image (near_start store disk image works told) c.write_slot.ensures.near) c.sync.ensures.elapses) c.read_entries.ensures.only_reads)
+    (near_then store disk disk _ image (near_start store disk image works told) c.write_slot.ensures.near) c.sync.ensures.elapses) c.read_entries.ensures.reads.only_reads)
     (λ image now told later. subst (λ (i : Image). SameButForWork store image i) (sym (is image now told later)) (near_slot store c.args.place c.args.length image shut))
     (λ image now s told later was work.
-    let (loads, has) = c.requires.manifest image told in
+    let (loads, has) = c.requires.manifest.manifest image told in
     sealed_again store _ c.args.place c.args.length image now s loads (record { size = refl; active = refl; known = refl }) refl shut refl (is image now told later) was (readopts.ready image told now later s loads was has))
     (λ sealed. readopts.settled)
