@@ -1,11 +1,13 @@
 -- What the parts of a recovery find.
 use Rattle.std.specs.Prelude.{◌≡◌, ◌≢◌, ◌⊎◌, ◌↔◌, ℕ, ◌+◌, ◌<◌, ◌≤◌, List, length, Bool, true, Option}
 use Rattle.std.specs.Option.{ForSome}
+use Rattle.load_base.specs.Config.{LoadView}
 use Rattle.crc_fields.specs.CheckSums.{crc16_of}
 use Rattle.disk_model.specs.Image.{Image, range}
 use Rattle.field_grammar.specs.Grammar.{Spelled, Fault}
-use Rattle.disk_layout.specs.Offsets.{slot_a, slot_b, longest_manifest}
+use Rattle.disk_layout.specs.Offsets.{IsBankSize, slot_a, slot_b, longest_manifest}
 use Rattle.disk_layout.specs.Slots.{slot_offset, IsOpen, IsSlot, IsActiveSlot, IsSlotAt, IsSound}
+use Rattle.disk_layout.specs.Contents.{HeaderIsFirst, entry_of}
 use Rattle.disk_layout.specs.Manifest.{LoadEntry, manifest, total_length}
 use Rattle.disk_layout.specs.DiskReads.{IsOfDisk}
 use Rattle.disk_layout.specs.Holds.{HasActiveSlot}
@@ -51,6 +53,11 @@ pub record IsActiveSlotOfTarget (image : Image) (id : Identity) (active_slot : A
 abbrev pub IsSoundFor : (size : ℕ) → SlotFields → Type 0
 IsSoundFor size slot = IsSound size slot.bank slot.manifest.offset slot.manifest.length
 
+-- a bank has this size, and in one such the slot can name a manifest
+pub record CanNameManifest (bank_size : ℕ) (slot : SlotFields) : Type 0 where
+  pub size : IsBankSize bank_size
+  pub sound : IsSoundFor bank_size slot
+
 -- the first that can't be in what the slot at this offset says
 pub data RefusesSlot (size at : ℕ) (slot : SlotFields) (fault : RecoverFault) : Type 0 where
   other_bank : 2 ≤ slot.bank → fault ≡ BadSlot (at + 20) → RefusesSlot size at slot fault
@@ -62,6 +69,11 @@ pub data RefusesSlot (size at : ℕ) (slot : SlotFields) (fault : RecoverFault) 
 -- a load has a file at least, its header
 abbrev pub HasAFile : LoadEntry → Type 0
 HasAFile entry = 1 ≤ length entry.files
+
+-- a load as the manifest tells it, whose header is its first file
+pub record IsLoadOfEntry (load : LoadView) (told : LoadEntry) : Type 0 where
+  pub entry : entry_of load ≡ told
+  pub header : HeaderIsFirst load
 
 -- these bytes, which begin at an offset of the disk, are no manifest from one offset on, or the disk or memory failed
 abbrev pub IsNoManifest : List ℕ → (start : ℕ) → RecoverFault → Type 0

@@ -9,7 +9,7 @@ use Rattle.disk_layout.specs.Holds.{Outline, HasOutline}
 use Rattle.disk_layout.specs.declared.active.Active.{Active}
 use Rattle.disk_layout.specs.declared.identity.Identity.{Identity}
 use Rattle.disk_layout.specs.declared.manifest.Manifest.{Manifest}
-use Rattle.bank_store.specs.Store.{bank_size_of, active_of, is_other_open, known_of}
+use Rattle.bank_store.specs.Store.{IsIdle, bank_size_of, active_of, is_other_open, known_of}
 use Rattle.recovery.specs.Parts.{TellsOther}
 use Rattle.recovery.specs.declared.surveying.Surveyed.{Surveyed}
 
@@ -51,3 +51,8 @@ KnowsManifest bytes m = bytes ≡ entry_bytes (typed_loads (manifest_view m))
 abbrev pub IsSurveyInRange : Surveyed → Type 0
 IsSurveyInRange s =
     IsFoundInRange s.identity s.manifest (active_of s.store) × (bank_size_of s.store ≡ s.identity.bank) × KnowsManifest (known_of s.store) s.manifest
+
+-- what is found is within its bounds, and in its store no installation has begun
+pub record IsFreshSurvey (s : Surveyed) : Type 0 where
+  pub in_range : IsSurveyInRange s
+  pub idle : IsIdle s.store

@@ -5,10 +5,10 @@ ghost use Rattle.std.specs.List.{All};
 ghost use Rattle.load_base.specs.Config.{file_view, load_view};
 ghost use Rattle.disk_model.specs.Image.{range};
 ghost use Rattle.disk_layout.specs.Manifest.{entry_view, total_length, entries_length};
-ghost use Rattle.disk_layout.specs.Contents.{file_entry_of, entry_of, entries_of, bytes_of};
-ghost use Rattle.disk_layout.specs.Contents.{contents_of_loads, HeaderIsFirst, HeadersAreFirst};
+ghost use Rattle.disk_layout.specs.Contents.{file_entry_of, entries_of, bytes_of};
+ghost use Rattle.disk_layout.specs.Contents.{contents_of_loads, HeadersAreFirst};
 ghost use Rattle.disk_layout.specs.DiskReads.{IsOfDisk, ReadsDisk};
-ghost use Rattle.recovery.specs.Parts.{HasAFile};
+ghost use Rattle.recovery.specs.Parts.{HasAFile, IsLoadOfEntry};
 
 use crate::reading::bytes_on;
 use disk_layout::{ManifestFile, ManifestLoad, RecoverFault};
@@ -55,8 +55,7 @@ fn load_on<K: Disk>(
     requires running { (K.state disk.old).stopped ≡ false }
     requires within { at + entries_length entry.now.files.items ≤ SIZE }
     requires files { HasAFile (entry_view entry.now) }
-    ensures entry { IfOk result (λ x. entry_of (load_view x.0) ≡ entry_view entry.now) }
-    ensures header { IfOk result (λ x. HeaderIsFirst (load_view x.0)) }
+    ensures of_entry { IfOk result (λ x. IsLoadOfEntry (load_view x.0) (entry_view entry.now)) }
     ensures end { IfOk result (λ x. x.1 ≡ at + entries_length entry.now.files.items) }
     ensures bytes { IfOk result (λ x. ForSome (K.state disk.old).reads
         (λ image. bytes_of (load_view x.0).files

@@ -3,7 +3,7 @@ ghost use Rattle.std.specs.Prelude.{◌≡◌, ◌+◌, ◌<◌, ℕ, List, leng
 ghost use Rattle.std.specs.Prelude.{IfNone, IsErrOf};
 ghost use Rattle.std.specs.Option.{ForSome};
 ghost use Rattle.disk_model.specs.Image.{range};
-ghost use Rattle.disk_layout.specs.Offsets.{IsBankSize, bank_at};
+ghost use Rattle.disk_layout.specs.Offsets.{bank_at};
 ghost use Rattle.field_grammar.specs.Grammar.{Spelled};
 ghost use Rattle.disk_layout.specs.Manifest.{FitsALayout, LoadEntry, RefusesManifestBytes};
 ghost use Rattle.disk_layout.specs.Manifest.{entries_length};
@@ -13,7 +13,7 @@ ghost use Rattle.disk_layout.specs.DiskReads.{ReadsDisk};
 ghost use Rattle.disk_layout.specs.declared.fault.RecoverFault.TheVariants.{DiskFailed};
 ghost use Rattle.bank_store.specs.DiskWrites.{IsRunning};
 ghost use Rattle.recovery.specs.FormerParts.{IsOfSlot};
-ghost use Rattle.recovery.specs.Parts.{IsSoundFor, RefusesLoads, RefusesManifest};
+ghost use Rattle.recovery.specs.Parts.{CanNameManifest, RefusesLoads, RefusesManifest};
 ghost use Rattle.recovery.specs.Outlines.{LeftAfterLoads, IsLeftAfter, IsOutlineInRange};
 ghost use Rattle.recovery.specs.Outlines.{TellsLoads};
 ghost use Rattle.recovery.specs.Outlines.{TellsOutline};
@@ -68,8 +68,7 @@ pub(crate) fn manifest_on<K: Disk>(
     slot: &SlotFields,
 ) -> Result<Manifest, RecoverFault>
     requires running { IsRunning (K.state disk.old) }
-    requires size { IsBankSize bank_size }
-    requires can_be { IsSoundFor bank_size slot.now }
+    requires can_be { CanNameManifest bank_size slot.now }
     ensures spelled { IfOk result (λ m. ForSome (K.state disk.old).reads (λ image.
         Spelled manifest (range image (bank_at bank_size slot.now.bank + slot.now.manifest.offset)
         slot.now.manifest.length) (manifest_view m))) }
@@ -111,8 +110,7 @@ fn manifest_bytes_on<K: Disk>(
     slot: &SlotFields,
 ) -> Result<Bytes, RecoverFault>
     requires running { IsRunning (K.state disk.old) }
-    requires size { IsBankSize bank_size }
-    requires can_be { IsSoundFor bank_size slot.now }
+    requires can_be { CanNameManifest bank_size slot.now }
     ensures bytes { IfOk result (λ bytes. ForSome (K.state disk.old).reads
         (λ image. bytes.items ≡ range image
         (bank_at bank_size slot.now.bank + slot.now.manifest.offset) slot.now.manifest.length)) }

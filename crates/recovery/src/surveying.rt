@@ -3,10 +3,9 @@ ghost use Rattle.std.specs.Prelude.{◌≡◌, IfOk, IfErr};
 ghost use Rattle.std.specs.Option.{ForSome};
 ghost use Rattle.disk_layout.specs.Holds.{StandingView, outline_of, Refuses};
 ghost use Rattle.disk_layout.specs.DiskReads.{ReadsDisk};
-ghost use Rattle.bank_store.specs.Store.{IsIdle};
 ghost use Rattle.bank_store.specs.DiskWrites.{IsRunning};
 ghost use Rattle.bank_store.specs.Fits.{HoldsFor, Fits, LosesOnlyWork, Works};
-ghost use Rattle.recovery.specs.Surveys.{IsSurveyed, IsSurveyInRange, FindsActive, IsFoundInRange};
+ghost use Rattle.recovery.specs.Surveys.{IsSurveyed, IsFreshSurvey, FindsActive, IsFoundInRange};
 ghost use Rattle.recovery.specs.Surveys.{KnowsManifest, outline_of_survey};
 
 use crate::manifests::{manifest_told, outline_on};
@@ -39,8 +38,7 @@ pub fn survey<K: Disk>(alloc: Global, disk: &mut K) -> Result<Surveyed, RecoverF
         (λ image. IsSurveyed image surveyed)) }
     ensures refused { IfErr result (λ fault. ForSome (K.state disk.old).reads
         (λ image. Refuses image fault)) }
-    ensures in_range { IfOk result (λ surveyed. IsSurveyInRange surveyed) }
-    ensures idle { IfOk result (λ surveyed. IsIdle surveyed.store) }
+    ensures fresh { IfOk result (λ surveyed. IsFreshSurvey surveyed) }
     ensures holds { IfOk result (λ surveyed. ForSome (K.state disk.old).reads
         (λ image. (s : StandingView) × HoldsFor surveyed.store image s
         × (outline_of s ≡ outline_of_survey surveyed))) }

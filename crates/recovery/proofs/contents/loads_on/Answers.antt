@@ -38,8 +38,8 @@ loop-entry-preserved g c =
     record {
       looked = look_more _ _ _ (c.in_ok-load.load, c.in_ok-load.end) was.looked now.reads_disk;
       offset = omega (arith, longer, was.offset, now.end);
-      named = load_entries_more c.loop-entry.loads.items c.push.new.self.items c.in_ok-load.load entries i e c.loop-entry-test.true c.entry-item.is c.in_ok-push.ensures.ok now.entry was.named;
-      headers = headers_more c.loop-entry.loads.items c.push.new.self.items c.in_ok-load.load c.in_ok-push.ensures.ok was.headers now.header;
+      named = load_entries_more c.loop-entry.loads.items c.push.new.self.items c.in_ok-load.load entries i e c.loop-entry-test.true c.entry-item.is c.in_ok-push.ensures.ok now.of_entry.entry was.named;
+      headers = headers_more c.loop-entry.loads.items c.push.new.self.items c.in_ok-load.load c.in_ok-push.ensures.ok was.headers now.of_entry.header;
       bytes = λ image told. rw longer (
           contents_more image c.args.start c.loop-entry.at (total_length (map entry_view (take i entries))) (entries_length e.files.items) c.loop-entry.loads.items c.push.new.self.items
           c.in_ok-load.load was.offset c.in_ok-push.ensures.ok (was.bytes image told) (now.bytes image (was.looked.runs.reads ∙ told)));

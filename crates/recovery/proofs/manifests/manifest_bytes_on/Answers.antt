@@ -14,5 +14,5 @@ pub returns-in_err-check_manifest-clause-of_slot : goal.returns-in_err-check_man
 returns-in_err-check_manifest-clause-of_slot g c =
     let p = err_from_is_err_and c.from_residual-in_err-check_manifest.result c.from_residual-in_err-check_manifest.ensures.1 in
     let within : c.offset.result + c.args.slot.now.manifest.offset + length c.as_slice.result.now < 2 ^ 32 =
-    omega (arith, c.offset.ensures.within, c.requires.can_be.within, ap length c.as_slice.ensures ∙ c.in_ok-bytes.ensures.size) in
+    omega (arith, c.offset.ensures.within, c.requires.can_be.sound.within, ap length c.as_slice.ensures ∙ c.in_ok-bytes.ensures.size) in
     rw (p.1, p.2) (loads_of_slot c.as_slice.result.now (c.offset.result + c.args.slot.now.manifest.offset) c.args.slot.now.manifest.offset _ within c.in_err-check_manifest.ensures.refused)
