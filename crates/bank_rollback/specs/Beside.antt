@@ -1,14 +1,18 @@
 -- A former configuration beside the active one, as it is found.
-use Rattle.std.specs.Prelude.{◌≡◌, ◌⊎◌, ℕ, ◌<◌, Result, OnOk, IfErr}
+use Rattle.std.specs.Prelude.{◌≡◌, ◌⊎◌, ℕ, ◌<◌, List, Result, OnOk, IfErr}
+use Rattle.std.specs.Option.{ForSome}
+use Rattle.load_base.specs.Config.{LoadView}
 use Rattle.disk_model.specs.Image.{Image}
-use Rattle.disk_model.specs.State.{DiskState, OnlyReads}
+use Rattle.disk_model.specs.State.{DiskState, IsSettled, OnlyReads}
 use Rattle.disk_layout.specs.DiskReads.{HasDiskCause, IsOutOfMemory, RunsOn}
-use Rattle.disk_layout.specs.Holds.{StandingView}
+use Rattle.disk_layout.specs.Holds.{HoldsConfig, StandingView}
 use Rattle.disk_layout.specs.Slots.{IsManifestRange, manifest_length_of, manifest_offset_of, other_slot}
 use Rattle.bank_store.specs.Bounds.{largest_bank}
 use Rattle.bank_store.specs.Fits.{HoldsFor}
+use Rattle.bank_store.specs.Given.{configured}
 use Rattle.bank_store.specs.Readopting.{HasLoadsAt}
 use Rattle.bank_store.specs.Store.{IsPrepared, active_sequence}
+use Rattle.bank_store.specs.declared.store.Store.{Store}
 use Rattle.recovery.specs.Formers.{HoldsFormer}
 use Rattle.bank_rollback.specs.declared.fault.RollbackFault.{RollbackFault}
 use Rattle.bank_rollback.specs.declared.fault.RollbackFault.TheVariants.{DiskFailed, Memory}
@@ -34,6 +38,12 @@ pub record CanBringBack (beside : Beside) : Type 0 where
   pub prepared : IsPrepared beside.store
   pub goes_on : active_sequence beside.store < 4294967295
   pub range : IsManifestRange largest_bank (record { offset = beside.place; length = beside.length })
+
+-- The loads that stood in the other bank, with their manifest at this place, are active, and nothing else may be left.
+pub record MakesActive (store : Store) (old new : DiskState) (place size : ℕ) : Type 0 where
+  pub holds : ForSome old.reads (λ image. ForSome new.reads (λ now. (s : StandingView) (loads : List LoadView) → HoldsFor store image s
+      → HasLoadsAt store image place size loads → HoldsConfig now (configured s loads)))
+  pub settled : IsSettled new
 
 -- a refusal of what stands on the disk leaves the disk running, and so does out of memory where it isn't the disk's
 abbrev pub LooksAfter : DiskState → DiskState → RollbackFault → Type 0

@@ -2,18 +2,18 @@
 ghost use Rattle.std.specs.Prelude.{◌≡◌, ◌⊎◌, ◌<◌, List, false, IfOk, IfErr, IsOk, OnOk};
 ghost use Rattle.std.specs.Option.{ForSome};
 ghost use Rattle.load_base.specs.Config.{LoadView};
-ghost use Rattle.disk_model.specs.State.{IsSettled};
-ghost use Rattle.disk_layout.specs.Holds.{HoldsConfig, StandingView, standing_view};
+ghost use Rattle.disk_layout.specs.Holds.{StandingView, standing_view};
 ghost use Rattle.disk_layout.specs.Slots.{IsManifestRange};
 ghost use Rattle.bank_store.specs.Bounds.{largest_bank};
 ghost use Rattle.bank_store.specs.DiskWrites.{AddsOnly, IsAnswered, IsRunning, WritesDisk};
-ghost use Rattle.bank_store.specs.Fits.{HoldsFor, InstallsBeside, LosesOnlyWork, Works};
+ghost use Rattle.bank_store.specs.Fits.{InstallsBeside, LosesOnlyWork, Works};
 ghost use Rattle.bank_store.specs.Given.{configured};
 ghost use Rattle.bank_store.specs.Keeps.{IsOldOrNew};
-ghost use Rattle.bank_store.specs.Readopting.{HasLoadsAt};
+ghost use Rattle.bank_store.specs.Readopting.{CanReadopt, HasLoadsAt};
 ghost use Rattle.bank_store.specs.Store.{IsPrepared, active_sequence};
 ghost use Rattle.recovery.specs.Formers.{HasOwnName as IsNamed, ReadsFormer, RefusesFormer};
-ghost use Rattle.bank_rollback.specs.Beside.{CanBringBack, IsFormerAt, LooksFor, StandsBeside};
+ghost use Rattle.bank_rollback.specs.Beside.{CanBringBack, IsFormerAt, LooksFor, MakesActive};
+ghost use Rattle.bank_rollback.specs.Beside.{StandsBeside};
 ghost use Rattle.bank_rollback.specs.Faults.{RollbackHasOwnName};
 ghost use Rattle.bank_rollback.specs.Rollbacks.{GoesOnAfter, HasRolledBack, LeavesActiveOrFormer};
 ghost use Rattle.bank_rollback.specs.Rollbacks.{RefusesRollback, RollsBack, WritesWhereItCan};
@@ -151,16 +151,11 @@ fn bring_back<K: Disk>(
 ) -> Result<(), StoreFault>
     requires prepared { IsPrepared store.old }
     requires goes_on { active_sequence store.old < 4294967295 }
-    requires range { IsManifestRange largest_bank (record { offset = place; length = length }) }
-    requires manifest { ForSome (K.state disk.old).reads (λ image.
-        (loads : List LoadView) × HasLoadsAt store.old image place length loads) }
+    requires manifest { CanReadopt store.old (K.state disk.old) place length }
     requires running { IsRunning (K.state disk.old) }
     // With Ok.
-    ensures holds { OnOk result (ForSome (K.state disk.old).reads (λ image.
-        ForSome (K.state disk.new).reads (λ now. (s : StandingView) (loads : List LoadView)
-        → HoldsFor store.old image s → HasLoadsAt store.old image place length loads
-        → HoldsConfig now (configured s loads)))) }
-    ensures settled { OnOk result (IsSettled (K.state disk.new)) }
+    ensures makes_active { OnOk result (MakesActive store.old (K.state disk.old)
+        (K.state disk.new) place length) }
     // Refusals.
     ensures only_failures { IsOk result ⊎ ¬ IsAnswered result }
     // Whatever it answers.

@@ -14,9 +14,12 @@ returns-in_err-beside-clause-any_moment g c rests image active told holds =
     (λ left may. inl (c.a_power_loss_takes_only_work.ensures.holds c.args.disk.now image active rests told holds left may))) c.find_beside.ensures.looks.only_reads
 
 pub bring_back-requires-clause-manifest : goal.bring_back-requires-clause-manifest
-bring_back-requires-clause-manifest g c image told =
-    let stands = c.in_ok-beside.ensures.found image (sym c.in_ok-beside.ensures.looks.ok.reads ∙ told) in
-    (stands.former.loads, stands.loads)
+bring_back-requires-clause-manifest g c = record {
+  range = c.in_ok-beside.ensures.ready.range;
+  manifest = λ image told.
+      let stands = c.in_ok-beside.ensures.found image (sym c.in_ok-beside.ensures.looks.ok.reads ∙ told) in
+      (stands.former.loads, stands.loads);
+}
 
 pub returns-in_err-bring_back-clause-any_moment : goal.returns-in_err-bring_back-clause-any_moment
 returns-in_err-bring_back-clause-any_moment g c rests image active told holds =
@@ -45,7 +48,7 @@ returns-clause-rolled_back g c =
     let looks = c.in_ok-beside.ensures.looks in
     let writes = c.in_ok-bring_back.ensures.writes_disk in
     rolled_back (g.K.Disk.state c.args.disk.now) (g.K.Disk.state c.find_beside.new.disk) (g.K.Disk.state c.bring_back.new.disk) c.in_ok-beside.beside c.in_ok-beside.ensures.ready c.in_ok-beside.ensures.found looks.ok
-    c.in_ok-bring_back.ensures.holds (writes.goes_on.tells ∙ looks.only_reads.tells) c.in_ok-bring_back.ensures.settled writes.running
+    c.in_ok-bring_back.ensures.makes_active.holds (writes.goes_on.tells ∙ looks.only_reads.tells) c.in_ok-bring_back.ensures.makes_active.settled writes.running
 
 pub returns-clause-rests : goal.returns-clause-rests
 returns-clause-rests g c rests running =
