@@ -8,4 +8,4 @@ mod printing;
 mod trace;
 
 pub use fault::ScriptFault;
-pub use trace::{Datagram, Happening, Side, TraceStep};
+pub use trace::{Datagram, FIRST_PORT, Happening, Side, TraceStep};

@@ -1,6 +1,6 @@
 //! The types of a trace.
 ghost use Rattle.std.specs.Prelude.{◌≡◌, IfOk};
-ghost use Rattle.exchange_trace.specs.Happenings.{datagram_view};
+ghost use Rattle.exchange_trace.specs.Happenings.{datagram_view, other as other_side};
 
 use disk_layout::RecoverFault;
 use load_base::{Bytes, Ident, List, NoMemory, PartText};
@@ -14,6 +14,22 @@ pub enum Side {
     /// The unit that it loads.
     Target,
 }
+
+impl Side {
+    /// The other end.
+    pub fn other(self) -> Side
+        ensures { result ≡ other_side self }
+    {
+        match self {
+            Side::Loader => Side::Target,
+            Side::Target => Side::Loader,
+        }
+    }
+}
+
+/// The first port from which an end posts, but for what it posts from the port of requests
+/// (docs/EXCHANGE.md, "Transfers").
+pub const FIRST_PORT: u32 = 1024;
 
 /// A datagram of UDP, without its addresses.
 #[derive(Drop)]

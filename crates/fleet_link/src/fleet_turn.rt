@@ -22,7 +22,6 @@ use exchange_trace::{Happening, Side};
 use fleet_trace::FleetHappening;
 use link_net::Waits;
 use link_net::line::Line;
-use link_net::mail::other;
 use link_net::turn::{Turn, Waiting, begins, tick, ticked_side};
 use load_base::NoMemory;
 use std::alloc::Global;
@@ -310,7 +309,7 @@ fn turns_passed(firsts: [Side; MOST_UNITS], ticked: FleetTick) -> [Side; MOST_UN
     ensures { turns_in result ≡ following.turn_passed (turns_in firsts) (tick_view ticked) }
 {
     let mut firsts = firsts;
-    firsts[ticked.index] = other(ticked.side);
+    firsts[ticked.index] = ticked.side.other();
     firsts
 }
 

@@ -9,7 +9,6 @@ ghost use Rattle.link_net.specs.Reading.{count_of as only_count, keyword_view};
 ghost use Rattle.link_net.specs.Reading.{words_of};
 ghost use Rattle.text_words.specs.Words.{one_of};
 
-use crate::mail::other;
 use crate::number::{any_number_in, count_in, port_in, size_in};
 use crate::values::{ident_in, parts_in, payload_in, side_in};
 use crate::words::{more_than_two_in, only_four_in, only_two_in, only_word_in, word_count};
@@ -182,7 +181,7 @@ fn inject_of(alloc: Global, line: u64, rest: Option<&[u8]>) -> Result<Line, Scri
     let to = port_in(line, to)?;
     let bytes = payload_in(alloc, line, payload)?;
     Ok(Line::Inject(Datagram {
-        from_side: other(reached),
+        from_side: reached.other(),
         from,
         to,
         bytes,

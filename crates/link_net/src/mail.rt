@@ -3,7 +3,6 @@ ghost use Rattle.std.specs.Prelude.{◌≡◌, ◌≢◌, ◌↔◌, ◌+◌, �
 ghost use Rattle.std.specs.Prelude.{IsTrue, option_map, slice_get, IfSome, OnSome, OnOk, OnErr};
 ghost use Rattle.std.specs.List.{slice_index_or};
 ghost use Rattle.exchange_trace.specs.Happenings.{Delivered, datagram_view, happening_view};
-ghost use Rattle.exchange_trace.specs.Happenings.{other as other_side};
 ghost use Rattle.exchange_trace.specs.Following.{delivery as delivery_of, least_delivery};
 ghost use Rattle.exchange_trace.specs.Following.{loss as loss_of};
 ghost use Rattle.exchange_trace.specs.Posts.{numbered};
@@ -100,7 +99,7 @@ impl Mail {
             NamesPosted (length self.now.posted) (happening_view given)) }
     {
         let side = self.side_of(number)?;
-        Some(delivered(other(side), number))
+        Some(delivered(side.other(), number))
     }
 
     /// The loss of the datagram of this number, if it was posted and not delivered.
@@ -223,15 +222,5 @@ fn delivered(side: Side, number: u64) -> Happening
     match side {
         Side::Loader => Happening::ToLoader(number),
         Side::Target => Happening::ToTarget(number),
-    }
-}
-
-/// The other side.
-pub fn other(side: Side) -> Side
-    ensures { result ≡ other_side side }
-{
-    match side {
-        Side::Loader => Side::Target,
-        Side::Target => Side::Loader,
     }
 }

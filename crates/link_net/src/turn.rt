@@ -9,7 +9,7 @@ ghost use Rattle.link_net.specs.Plans.{IsTurn, LineTakesMemory, TakesMemory};
 ghost use Rattle.link_net.specs.Plans.{plan_at, rest_view, turn_view};
 
 use crate::line::Line;
-use crate::mail::{Mail, other};
+use crate::mail::Mail;
 use exchange_trace::{Happening, Side};
 use load_base::{List, NoMemory, PartText};
 use std::alloc::Global;
@@ -197,7 +197,7 @@ fn finishing(mail: &Mail, first: Side, waiting: Waiting) -> Option<Turn>
     let side = ticked_side(first, waiting)?;
     Some(Turn {
         given: tick(side),
-        rest: Rest::Finishing(other(side)),
+        rest: Rest::Finishing(side.other()),
     })
 }
 
@@ -208,8 +208,8 @@ pub fn ticked_side(first: Side, waiting: Waiting) -> Option<Side>
 {
     if waits(first, waiting) {
         Some(first)
-    } else if waits(other(first), waiting) {
-        Some(other(first))
+    } else if waits(first.other(), waiting) {
+        Some(first.other())
     } else {
         None
     }

@@ -36,7 +36,7 @@ use crate::requested::{Requested, entries_of, request_for};
 use crate::row::Row;
 use crate::session::{LiveSession, Session, Start};
 use crate::turn::Turn;
-use exchange_trace::{Datagram, Side};
+use exchange_trace::{Datagram, FIRST_PORT, Side};
 use load_base::{Ident, List, Name, NoMemory, PartText};
 use load_protocol_files::{Lcl, Lur};
 use media_check::MediaSet;
@@ -89,7 +89,7 @@ impl<'m> Loader<'m> {
         Loader {
             alloc,
             media,
-            end: TransferEnd::new(alloc, 1024),
+            end: TransferEnd::new(alloc, FIRST_PORT),
             live: None,
             sessions: List::new(alloc),
         }

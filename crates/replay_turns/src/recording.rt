@@ -9,7 +9,7 @@ ghost use Rattle.replay_turns.specs.Orders.{IsInOrder};
 ghost use Rattle.replay_turns.specs.Recordings.{StepHasBegun, HasPlace, post_of};
 
 use disk_layout::RecoverFault;
-use exchange_trace::{Datagram, Happening, Side, TraceStep};
+use exchange_trace::{Datagram, FIRST_PORT, Happening, Side, TraceStep};
 use load_base::{List, NoMemory};
 use std::alloc::Global;
 use std::marker::Model;
@@ -45,7 +45,7 @@ impl Recording {
         Recording {
             trace: Vec::new(alloc),
             posts: Vec::new(alloc),
-            first_port: 1024,
+            first_port: FIRST_PORT,
         }
     }
 

@@ -36,9 +36,9 @@ use accept_rules::{Interlock, Rule};
 use bank_store::{a_power_loss_takes_only_work, an_idle_store_works};
 use disk_layout::{Identity, RecoverFault, an_image_holds_one_configuration};
 use disk_model::Power;
-use exchange_trace::{Datagram, Happening, TraceStep};
+use exchange_trace::{Datagram, FIRST_PORT, Happening, TraceStep};
 use link_net::Waits;
-use load_base::{Bytes, List, NoMemory};
+use load_base::{List, NoMemory};
 use loader_machine::{Loader, Session};
 use media_check::MediaSet;
 use replay_rules::laws::{a_step_keeps_the_tie, contents_follow_their_trace};
@@ -107,7 +107,7 @@ impl<'m, R: Rule> Driver<'m, R> {
         an_image_holds_one_configuration();
         a_power_loss_takes_only_work::<K>();
         an_idle_store_works::<K>();
-        match Target::boot(alloc, disk, interlock, 1024) {
+        match Target::boot(alloc, disk, interlock, FIRST_PORT) {
             Ok(target) => Ok(Driver {
                 identity: *target.identity(),
                 ends: Ends {

@@ -2,7 +2,7 @@
 ghost use Rattle.std.specs.Fmt.{decimal};
 ghost use Rattle.std.specs.Prelude.{◌≡◌, ◌∷◌, ◌++◌, [], IfOk, OnOk};
 ghost use Rattle.hex.specs.Hex.{encode_lower};
-ghost use Rattle.exchange_trace.specs.Happenings.{datagram_view, happening_view, other};
+ghost use Rattle.exchange_trace.specs.Happenings.{datagram_view, happening_view};
 ghost use Rattle.upload_replay.specs.Texts.{given_line, inject_line, numbered_line, post_line};
 ghost use Rattle.upload_replay.specs.Texts.{side_text, spaced, step_line};
 ghost use Rattle.upload_replay.specs.Texts.{upload_line, wire};
@@ -72,7 +72,7 @@ fn put_injected(alloc: Global, out: &mut Bytes, datagram: &Datagram) -> Result<(
         (out.new.items ≡ out.old.items ++ inject_line (datagram_view datagram.now)) }
 {
     out.extend(b"inject ")?;
-    out.extend(letter(other_side(datagram.from_side)))?;
+    out.extend(letter(datagram.from_side.other()))?;
     put_datagram(alloc, out, datagram)
 }
 
@@ -91,15 +91,6 @@ fn put_datagram(alloc: Global, out: &mut Bytes, datagram: &Datagram) -> Result<(
     let digits = hex::encode(alloc, datagram.bytes.as_slice())?;
     out.extend(digits.as_bytes())?;
     out.extend(b"\n")
-}
-
-fn other_side(side: Side) -> Side
-    ensures { result ≡ other side }
-{
-    match side {
-        Side::Loader => Side::Target,
-        Side::Target => Side::Loader,
-    }
 }
 
 fn letter(side: Side) -> &'static [u8]
