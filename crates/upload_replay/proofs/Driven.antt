@@ -1,7 +1,8 @@
 -- A run as a driver over a link: how it begins, and what is said of it at its end.
-use Rattle.std.proofs.Common.{◌≡◌, ℕ, ◌≤◌, List, [], ◌∷◌, true, false, Result, Ok, Err, IfOk, refl, sym, ap, subst, ◌∙◌, arith}
+use Rattle.std.proofs.Common.{◌≡◌, ◌⊎◌, inl, inr, ℕ, ◌≤◌, List, [], ◌∷◌, true, false, Result, Ok, Err, IfOk, refl, sym, ap, subst, ◌∙◌, arith}
 use Rattle.std.specs.Prelude.{map, option_map}
 use Rattle.std.proofs.lemmas.List.{append-nil}
+use Rattle.bank_store.specs.Fits.{LosesOnlyWork}
 use Rattle.disk_layout.specs.Holds.{standing_view}
 use Rattle.disk_model.specs.State.{DiskState}
 use Rattle.exchange_trace.specs.Posts.{posted_in}
@@ -14,15 +15,11 @@ use Rattle.replay_rules.specs.BothEnds.{Setting}
 use Rattle.replay_turns.proofs.PowerLemmas.{rose_not, rose_on}
 use Rattle.replay_turns.specs.Powers.{RoseBy, disk_stops}
 use Rattle.upload_replay.specs.declared.outcome.Drive.{Drive}
-use Rattle.upload_replay.specs.Drivers.{DriverState, GoesOn, HoldsUnit, IsUnderWay, RunGoesOn, RunsOnDisk, end_step}
-use Rattle.upload_replay.specs.Drives.{IsLoadersRun, IsDrivenRun, IsUnitRun}
-use Rattle.upload_replay.specs.Endings.{EndsRun, EndsUnit, FailedIfUnknown, HoldsSome}
+use Rattle.upload_replay.specs.Drivers.{DriverState, GoesOn, HoldsUnit, IsTiedTo, IsUnderWay, RunGoesOn, RunsOnDisk, end_step}
+use Rattle.upload_replay.specs.Drives.{IsLoadersRun, IsDrivenRun, IsUnitRun, NeverBoots}
+use Rattle.upload_replay.specs.Endings.{EndsOnSetting, EndsRun, EndsUnit, FailedIfUnknown, HoldsSome}
+use Rattle.upload_replay.specs.Moments.{Clocks, HoldsToEnd}
 use Rattle.upload_replay.proofs.Begins.{starts_on}
-
--- what holds with Ok, under a premise that is known later
-pub later : {T E : Type 0} (result : Result T E) (A : Type 0) (P : T → Type 0) → (A → IfOk result P) → IfOk result (λ x. A → P x)
-later (Ok x) A P known = known
-later (Err e) A P known = tt
 
 pub under_way_first : {R : Type 0} (link : LinkState) (media : SetView) (d : DriverState R) (old new : DiskState) → d.steps ≡ [] → d.loader.set ≡ media → old.faults ≤ new.faults → IsUnderWay false link link old.faults media d new
 under_way_first link media d old new none is later_ = record {
@@ -38,7 +35,7 @@ stops_to_end : (steps : List Step) → disk_stops (end_step ∷ steps) ≡ disk_
 stops_to_end steps = omega arith
 
 module _ {R : Type 0} (d : DriverState R) (drive : Drive) (ended : steps_of drive.trace.items ≡ end_step ∷ d.steps) where
-  pub run_ended : (media : SetView) (began link : LinkState) (first last new : DiskState) → HoldsSome first → GoesOn d → IsUnderWay true began link first.faults media d last → link.posted ≡ posted_in d.steps → EndsUnit d.steps d.loader drive new
+  pub run_ended : (media : SetView) (began link : LinkState) (first last new : DiskState) → HoldsSome first → GoesOn d → IsUnderWay true began link first.faults media d last → link.posted ≡ posted_in d.steps → EndsUnit d drive last new
       → FailedIfUnknown drive.standing first.faults (disk_stops d.steps) new → last.faults ≤ new.faults → EndsRun (media_of media) began link drive first new
   run_ended media began link first last new stood on under_way posted end unknown faults = record {
     stood = stood;
@@ -64,3 +61,18 @@ module _ {R : Type 0} (d : DriverState R) (drive : Drive) (ended : steps_of driv
     sessions_are = unit.sessions_are;
     keeps = unit.keeps;
   }
+
+-- what the end of its driver promises of a run on this setting
+pub ends_on_setting : {R E : Type 0} (result : Result Drive E) (d : DriverState R) (set : Setting) (began link : LinkState) (old last new : DiskState) → IfOk result (λ drive. EndsUnit d drive last new)
+    → (IsTiedTo set d → IfOk result (λ drive. IsUnitRun set (steps_of drive.trace.items) (map session_view drive.sessions.items) (option_map standing_view drive.standing)))
+    → ((since : ℕ) (clocks : Clocks) → HoldsUnit set since clocks d last → IfOk result (λ drive. HoldsToEnd set (steps_of drive.trace.items) drive.standing since (last.clock ∷ clocks) new))
+    → (NeverBoots d.steps ⊎ LosesOnlyWork old → RunGoesOn set true began link d) → (LosesOnlyWork old → RunsOnDisk set true began link old.clock d last)
+    → IfOk result (λ drive. EndsOnSetting set began link drive old new)
+ends_on_setting (Err fault) d set began link old last new ended unit held on runs = tt
+ends_on_setting (Ok drive) d set began link old last new ended unit held on runs = record {
+  run = λ either.
+      let going = on (elim either [ inl never ↦ inl (rw ended.ended at never).1 | inr loses ↦ inr loses ]) in
+      unit_is_run d drive ended.ended set began link going (unit going.tied);
+  moments = λ loses. let run = runs loses in (last.clock ∷ run.clocks, (held old.clock run.clocks (record { tied = run.goes_on.tied; held = run.held })).moments);
+  rests = λ loses. let run = runs loses in (held old.clock run.clocks (record { tied = run.goes_on.tied; held = run.held })).rests;
+}

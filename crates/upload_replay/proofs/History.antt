@@ -24,7 +24,7 @@ use Rattle.target_machine.specs.Decisions as machine
 use Rattle.replay_turns.proofs.StepLemmas.{one_left, one_of_either, one_right}
 use Rattle.replay_turns.specs.StepsOnDisks.{AddsInStep, LeavesNoMore}
 use Rattle.upload_replay.specs.Drivers.{DriverState, GoesOn, IsLinked, IsTiedTo, RunsOnDisk}
-use Rattle.upload_replay.specs.Leaves.{IsPostedUpTo, LastInjectsBytes, LeavesHistory, all_active, brought_last}
+use Rattle.upload_replay.specs.Leaves.{IsPostedUpTo, LastInjectsBytes, LeavesHistory, LeavesOfRun, all_active, brought_last}
 use Rattle.upload_replay.specs.Moments.{AreClocks, HeldSoFar, LeavesGood}
 use Rattle.upload_replay.specs.Turns.{IsPostedInPart}
 use Rattle.upload_replay.specs.declared.outcome.DriveFault.{DriveFault}
@@ -254,3 +254,6 @@ history_good active set accepts began link since disk result left = record {
     ];
   };
 }
+
+pub left_of_run : {T : Type 0} → ActiveIsFirstOrGood → (set : Setting) (began link : LinkState) (since : ℕ) (disk : DiskState) (result : Result T DriveFault) → LeavesHistory set began link since disk result → LeavesOfRun set began link since disk result
+left_of_run active set began link since disk result left = record { history = left; good = λ accepts. history_good active set accepts began link since disk result left }

@@ -2,6 +2,7 @@
 use Rattle.std.proofs.Common.{◌≡◌, Result, Ok, Err, IfOk, OnOk, true, false, Bool, cond, List, [], ◌∷◌, ◌++◌, Option, Some, None, refl, sym, ap, subst, ◌∙◌}
 use Rattle.std.specs.Prelude.{is_some}
 use Rattle.std.proofs.lemmas.List.{append-nil}
+use Rattle.accept_rules.specs.declared.kept.KeptLoad.{KeptLoad}
 use Rattle.disk_model.specs.State.{DiskState}
 use Rattle.exchange_trace.specs.declared.trace.Side.TheVariants as sides
 use Rattle.exchange_trace.specs.Happenings.{DatagramView, HappeningView, Booted, Delivered, Ended, Info_started, Injected, Lost, Power_cut, Size_told, Ticked, Upload_started}
@@ -12,6 +13,7 @@ use Rattle.exchange_trace.specs.Steps.{Boot_refused, Came_up, Note, Step, Went_d
 use Rattle.link_net.specs.Followed.{HasFollowed}
 use Rattle.link_net.proofs.FollowedLemmas.{followed_next}
 use Rattle.link_net.specs.Links.{LinkGives, LinkState, scene_of}
+use Rattle.load_header.specs.declared.header.LoadHeader.{LoadHeader}
 use Rattle.session_rules.specs.Loader.{LoaderView}
 use Rattle.session_rules.specs.Laws.{LoaderFollows}
 use Rattle.session_rules.specs.LoaderLog.{LoaderReading, SessionLog, loader_reading, loader_view, session_view as loader_session}
@@ -28,7 +30,7 @@ use Rattle.replay_turns.specs.Ends.{HasStepped as Moved}
 use Rattle.replay_turns.proofs.StepLemmas.{gone_keeps_none}
 use Rattle.replay_turns.specs.Targets.{TargetTurns}
 use Rattle.replay_turns.specs.Turns.{LoaderTakes, target_kept}
-use Rattle.upload_replay.specs.Drivers.{DriverState, GoesOn, IsLinked, IsTiedTo, RunGoesOn, StepsUnit}
+use Rattle.upload_replay.specs.Drivers.{DriverState, GoesOn, IsLinked, IsTiedTo, RunGoesOn, StandsOn, StaysOnSetting, StepsUnit}
 use Rattle.upload_replay.specs.Drives.{LoaderGoesOn, has_session, is_end}
 use Rattle.upload_replay.specs.Turns.{link_with}
 
@@ -289,4 +291,19 @@ end_on set began link given d h loader_side target_side is l t gives on = record
   linked = linked_end began link given d.steps h loader_side target_side is gives on.linked;
   tied = on.tied;
   follows = λ script start. subst (λ (x : HappeningView). HasFollowed (waiting set) script (with_given d.steps x) given) is (asked_on set d script link given h loader_side target_side l t gives on.tied (on.follows script start));
+}
+
+-- ---- turns
+
+-- before any
+pub stays_at_first : {R : Type 0} (may_say : R → LoadHeader → List KeptLoad → Bool → Type 0) (set : Setting) (link : LinkState) (d : DriverState R) (disk : DiskState) → StandsOn may_say set d → StaysOnSetting may_say set false link link d d disk disk
+stays_at_first may_say set link d disk stands = record { stands = stands; goes_on = λ began before. before; held = λ began since runs. runs }
+
+-- one after the others
+pub stays_on : {R : Type 0} (may_say : R → LoadHeader → List KeptLoad → Bool → Type 0) (set : Setting) (ended : Bool) (first mid last : LinkState) (before then after : DriverState R) (old between new : DiskState)
+    → StaysOnSetting may_say set false first mid before then old between → StaysOnSetting may_say set ended mid last then after between new → StaysOnSetting may_say set ended first last before after old new
+stays_on may_say set ended first mid last before then after old between new so_far next = record {
+  stands = next.stands;
+  goes_on = λ began was. next.goes_on began (so_far.goes_on began was);
+  held = λ began since runs. next.held began since (so_far.held began since runs);
 }

@@ -2,6 +2,7 @@
 use Rattle.std.specs.Prelude.{◌≡◌, ℕ, ◌≤◌, List, [], ◌∷◌, ◌++◌, Bool, true, false, length, Option, Some}
 use Rattle.std.specs.List.{AllByRecursion}
 use Rattle.accept_rules.specs.Interlocks.{FollowsAccepts}
+use Rattle.bank_store.specs.Fits.{LosesOnlyWork}
 use Rattle.disk_layout.specs.declared.identity.Identity.{Identity}
 use Rattle.disk_model.specs.State.{DiskState}
 use Rattle.exchange_trace.specs.Happenings.{DatagramView, HappeningView, Ended}
@@ -24,7 +25,7 @@ use Rattle.target_machine.specs.Boots.{ComesUp}
 use Rattle.target_machine.specs.Decisions as machine
 use Rattle.replay_turns.specs.Powers.{RoseBy, disk_stops, stops_in}
 use Rattle.replay_turns.specs.Turns.{RuleFollows, RunsWhileUp, target_kept}
-use Rattle.upload_replay.specs.Drives.{LoaderGoesOn}
+use Rattle.upload_replay.specs.Drives.{LoaderGoesOn, NeverBoots}
 use Rattle.upload_replay.specs.Moments.{HeldSoFar}
 
 -- a loader and the target of one disk: the rule of the interlock, the identity that the first boot read, the steps so far, the
@@ -61,6 +62,11 @@ pub record IsTiedTo {R : Type 0} (set : Setting) (d : DriverState R) : Type 0 wh
 pub record HoldsUnit {R : Type 0} (set : Setting) (since : ℕ) (clocks : List ℕ) (d : DriverState R) (disk : DiskState) : Type 0 where
   pub tied : IsTiedTo set d
   pub held : HeldSoFar set since clocks d.steps d.target disk
+
+-- It may come to its end: it can be used, and its disk runs while its target is up.
+pub record CanEnd {R : Type 0} (d : DriverState R) (disk : DiskState) : Type 0 where
+  pub goes_on : GoesOn d
+  pub running : RunsWhileUp d.target disk
 
 -- ---- one step
 
@@ -119,6 +125,13 @@ pub record RunsOnDisk {R : Type 0} (set : Setting) (ended : Bool) (began link : 
   pub clocks : List ℕ
   pub held : HeldSoFar set since clocks d.steps d.target disk
 
+-- A run that stood on this setting stands on it after these turns too; it is tied to its trace still, where it was so as long as
+-- no boot came, and its disk holds and held what was active, where it did so before.
+pub record StaysOnSetting {R : Type 0} (may_say : R → LoadHeader → List KeptLoad → Bool → Type 0) (set : Setting) (ended : Bool) (link link_then : LinkState) (before after : DriverState R) (old new : DiskState) : Type 0 where
+  pub stands : StandsOn may_say set after
+  pub goes_on : (began : LinkState) → (NeverBoots before.steps → RunGoesOn set false began link before) → NeverBoots after.steps → RunGoesOn set ended began link_then after
+  pub held : (began : LinkState) (since : ℕ) → RunsOnDisk set false began link since before old → RunsOnDisk set ended began link_then since after new
+
 -- ---- at first
 
 -- Nothing has happened, and the target came up: it stands on this rule and this media set, and its disk runs.
@@ -132,3 +145,10 @@ pub record BeginsUnit {R : Type 0} (rule : R) (media : SetView) (d : DriverState
   pub target_is : d.target ≡ Some target
   pub up : ComesUp rule 1024 target old
   pub identity : d.identity ≡ target.view.active.identity
+
+-- It came up on a disk that holds what this setting starts on: it stands on the setting and is tied to its trace, of no step yet;
+-- and where a power loss takes only work from the disk, that holds what is active.
+pub record BeginsOnSetting {R : Type 0} (may_say : R → LoadHeader → List KeptLoad → Bool → Type 0) (set : Setting) (d : DriverState R) (old new : DiskState) : Type 0 where
+  pub stands : StandsOn may_say set d
+  pub tied : IsTiedTo set d
+  pub held : LosesOnlyWork old → HoldsUnit set old.clock [] d new

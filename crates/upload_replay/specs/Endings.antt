@@ -1,6 +1,7 @@
 -- How a run ends, and why there is none (docs/EXCHANGE.md, "Runs").
-use Rattle.std.specs.Prelude.{◌≡◌, ℕ, ◌+◌, ◌≤◌, true, ◌⊎◌, List, ◌∷◌, map, Option, Some, None, Result, Ok, Err, IfErr, IsErrOf, ⊤}
+use Rattle.std.specs.Prelude.{◌≡◌, ℕ, ◌+◌, ◌≤◌, true, false, is_some, ◌⊎◌, List, ◌∷◌, map, option_map, Option, Some, None, Result, Ok, Err, IfErr, IsErrOf, ⊤}
 use Rattle.std.specs.Option.{ForSome}
+use Rattle.bank_store.specs.Fits.{LosesOnlyWork}
 use Rattle.load_base.specs.Counts.{Rose}
 use Rattle.disk_layout.specs.DiskReads.{IsOfDisk, RunsOn, RunsOnAfter}
 use Rattle.disk_layout.specs.Holds.{HasDiskFault, HoldsConfig, StandingView, standing_view}
@@ -11,19 +12,21 @@ use Rattle.disk_model.specs.Image.{Image}
 use Rattle.disk_model.specs.State.{DiskState, KeepsPower, OnlyReads}
 use Rattle.exchange_trace.specs.Steps.{Step}
 use Rattle.link_net.specs.Links.{LinkState}
+use Rattle.replay_rules.specs.BothEnds.{Setting}
 use Rattle.target_machine.specs.declared.boot.BootFault.{BootFault}
 use Rattle.target_machine.specs.declared.boot.BootFault.TheVariants as boots
 use Rattle.upload_replay.specs.declared.outcome.DriveFault.{DriveFault}
 use Rattle.upload_replay.specs.declared.outcome.DriveFault.TheVariants as faults
 use Rattle.replay_turns.specs.Powers.{RoseBy, disk_stops}
 use Rattle.replay_turns.specs.Orders.{IsInOrder}
-use Rattle.replay_turns.specs.StepsOnDisks.{LeavesNoMore}
+use Rattle.replay_turns.specs.StepsOnDisks.{LeavesNoMore, Reboots}
 use Rattle.replay_turns.specs.Turns.{RunsOut}
 use Rattle.exchange_trace.specs.Steps.{steps_of}
-use Rattle.loader_machine.specs.Machine.{LoaderState, media_of, session_view}
+use Rattle.loader_machine.specs.Machine.{media_of, session_view}
 use Rattle.session_rules.specs.MediaFiles.{Media}
-use Rattle.upload_replay.specs.Drivers.{end_step}
-use Rattle.upload_replay.specs.Drives.{IsLoadersRun, TellsLink}
+use Rattle.upload_replay.specs.Drivers.{DriverState, end_step}
+use Rattle.upload_replay.specs.Drives.{IsDrivenRun, IsLoadersRun, NeverBoots, TellsLink}
+use Rattle.upload_replay.specs.Moments.{HoldsAllAlong}
 use Rattle.upload_replay.specs.declared.outcome.Drive.{Drive}
 use Rattle.upload_replay.specs.Turns.{HasDriveCause}
 
@@ -138,13 +141,15 @@ pub record IsRefused {T : Type 0} (before now : ℕ) (old new : DiskState) (link
 
 -- ---- how a run ends
 
--- A driver with these steps came to its end: it is one step more, after which the lines of the trace stand in their order. The
--- loader did what its rules say, whatever is known of the disk; and what was recovered stands there.
-pub record EndsUnit (before : List Step) (loader : LoaderState) (drive : Drive) (new : DiskState) : Type 0 where
-  pub ended : steps_of drive.trace.items ≡ end_step ∷ before
+-- A driver came to its end: it is one step more, after which the lines of the trace stand in their order. The loader did what
+-- its rules say, whatever is known of the disk; what was recovered stands there; and where the target was down the disk was
+-- restarted first.
+pub record EndsUnit {R : Type 0} (d : DriverState R) (drive : Drive) (old new : DiskState) : Type 0 where
+  pub ended : steps_of drive.trace.items ≡ end_step ∷ d.steps
   pub ordered : IsInOrder drive.trace.items
-  pub ran : IsLoadersRun (media_of loader.set) (steps_of drive.trace.items) (map session_view drive.sessions.items)
+  pub ran : IsLoadersRun (media_of d.loader.set) (steps_of drive.trace.items) (map session_view drive.sessions.items)
   pub standing : HoldsStanding drive.standing new
+  pub reboots : is_some d.target ≡ false → Reboots old new
 
 -- At the end of a driver no loss of power is armed, and no image comes that a power loss couldn't leave before.
 pub record LeavesUnit (old new : DiskState) : Type 0 where
@@ -162,3 +167,12 @@ pub record EndsRun (media : Media) (began ended : LinkState) (drive : Drive) (ol
   pub ordered : IsInOrder drive.trace.items
   pub stops : CountsStops (steps_of drive.trace.items) drive.standing old new
   pub standing : HoldsStanding drive.standing new
+
+-- A run came to its end on a disk that held what this setting starts on: it is a run of the setting, if no boot came in it or a
+-- power loss could take only work from the disk at first; if that is so, the disk held at each moment what was active then, and is
+-- at rest again where it is known what was recovered.
+pub record EndsOnSetting (set : Setting) (began ended : LinkState) (drive : Drive) (old new : DiskState) : Type 0 where
+  pub run : NeverBoots (steps_of drive.trace.items) ⊎ LosesOnlyWork old
+      → IsDrivenRun set began ended (steps_of drive.trace.items) (map session_view drive.sessions.items) (option_map standing_view drive.standing)
+  pub moments : LosesOnlyWork old → HoldsAllAlong set (steps_of drive.trace.items) (option_map standing_view drive.standing) old new
+  pub rests : LosesOnlyWork old → is_some drive.standing ≡ true → LosesOnlyWork new

@@ -1,5 +1,6 @@
 -- What a run leaves, however it ends (docs/EXCHANGE.md, "Runs"; docs/POWER.md).
 use Rattle.std.specs.Prelude.{◌≡◌, ℕ, ◌≤◌, List, [], ◌∷◌, ◌++◌, is_some, true, Option, Some, None, Result, IsErrOf, ⊤}
+use Rattle.accept_rules.specs.Permissions.{AcceptsPermitted}
 use Rattle.disk_model.specs.Image.{Image}
 use Rattle.disk_model.specs.State.{DiskState}
 use Rattle.disk_layout.specs.Holds.{HoldsConfig, StandingView}
@@ -14,6 +15,7 @@ use Rattle.replay_rules.specs.Changes.{AllCarryBytes, InjectsBytes}
 use Rattle.replay_rules.specs.Due.{AllDue, AllNoted}
 use Rattle.replay_rules.specs.Histories.{may_be_active}
 use Rattle.replay_rules.specs.Promises.{HoldsOneOf}
+use Rattle.upload_replay.specs.Moments.{LeavesGood}
 use Rattle.upload_replay.specs.declared.outcome.DriveFault.{DriveFault}
 use Rattle.upload_replay.specs.declared.outcome.DriveFault.TheVariants as faults
 
@@ -60,6 +62,11 @@ pub record LeavesHistory {T : Type 0} (set : Setting) (began link : LinkState) (
   pub tells : is_some disk.reads ≡ true
   pub each : (u : ℕ) (image : Image) → disk.between since u image → HoldsOneOf (brought_last set steps last ++ all_active set steps) image
   pub here : (image : Image) → disk.now image → HoldsOneOf (brought_last set steps last ++ may_be_active (target_at set steps)) image
+
+-- However a run ended, what is left of its disk is told by its steps, and is good where the interlock accepts only what it may.
+pub record LeavesOfRun {T : Type 0} (set : Setting) (began link : LinkState) (since : ℕ) (disk : DiskState) (result : Result T DriveFault) : Type 0 where
+  pub history : LeavesHistory set began link since disk result
+  pub good : AcceptsPermitted set.accepts → LeavesGood set since disk
 
 -- ---- what follows for what is left
 

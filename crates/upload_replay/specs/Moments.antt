@@ -1,10 +1,12 @@
 -- What the disk of a run holds, and what a power loss may leave of it at each moment (docs/EXCHANGE.md, "Runs"; docs/DISK.md).
-use Rattle.std.specs.Prelude.{◌≡◌, ℕ, ◌≤◌, List, [], ◌∷◌, true, is_some, Option, Some, None, ⊤}
+use Rattle.std.specs.Prelude.{◌≡◌, ℕ, ◌≤◌, List, [], ◌∷◌, true, is_some, Option, Some, None, option_map, ⊤}
 use Rattle.std.specs.Option.{ForSome}
+use Rattle.bank_store.specs.Fits.{LosesOnlyWork}
 use Rattle.disk_model.specs.Image.{Image}
 use Rattle.disk_model.specs.Moments.{LeavesOnly}
 use Rattle.disk_model.specs.State.{DiskState}
-use Rattle.disk_layout.specs.Holds.{HoldsConfig, StandingView}
+use Rattle.disk_layout.specs.Holds.{HoldsConfig, StandingView, standing_view}
+use Rattle.disk_layout.specs.declared.standing.Standing.{Standing}
 use Rattle.exchange_trace.specs.Steps.{Step}
 use Rattle.replay_rules.specs.BothEnds.{Setting, TargetStanding, target_at}
 use Rattle.replay_rules.specs.Histories.{active_by, may_be_active}
@@ -63,6 +65,12 @@ pub record HoldsThroughout (set : Setting) (steps : List Step) (standing : Optio
   pub after : (u : ℕ) (image : Image) → new.between end u image → HoldsOneOf (may_be_active (target_at set steps)) image
   pub left : (image : Image) → new.now image → LeftAtEnd (target_at set steps) standing image
   pub active : ForSome standing (λ s. active_by (target_at set steps) (Some s) ≡ s)
+
+-- The disk of a unit that came to its end so held at each moment what was active then, and is at rest where it is known what was
+-- recovered.
+pub record HoldsToEnd (set : Setting) (steps : List Step) (standing : Option Standing) (since : ℕ) (clocks : Clocks) (new : DiskState) : Type 0 where
+  pub moments : HoldsThroughout set steps (option_map standing_view standing) since clocks new
+  pub rests : is_some standing ≡ true → LosesOnlyWork new
 
 -- so it is from the start of a call to its return, by the clocks at which its steps began
 abbrev pub HoldsAllAlong : Setting → List Step → Option StandingView → (old new : DiskState) → Type 0

@@ -1,10 +1,9 @@
 //! A loader and the target of one disk, happening by happening.
-ghost use Rattle.std.specs.Prelude.{◌≡◌, ◌+◌, ◌≤◌, ◌∷◌, [], ℕ, IfErr, IfOk, Some, drop, length};
-ghost use Rattle.std.specs.Prelude.{OnOk, false, is_some, map, option_map, true};
+ghost use Rattle.std.specs.Prelude.{◌≡◌, ◌+◌, ◌≤◌, ◌∷◌, ℕ, IfErr, IfOk, OnOk, Some, drop, length};
+ghost use Rattle.std.specs.Prelude.{is_some, map, option_map};
 ghost use Rattle.accept_rules.specs.Interlocks.{FollowsAccepts};
 ghost use Rattle.accept_rules.specs.Permissions.{Accepts};
 ghost use Rattle.bank_store.specs.DiskWrites.{IsRunning};
-ghost use Rattle.bank_store.specs.Fits.{LosesOnlyWork};
 ghost use Rattle.disk_layout.specs.Holds.{standing_view};
 ghost use Rattle.disk_model.specs.Image.{Image};
 ghost use Rattle.disk_model.specs.State.{OnlyReads};
@@ -17,18 +16,17 @@ ghost use Rattle.replay_rules.specs.BothEnds.{Setting};
 ghost use Rattle.replay_turns.specs.Orders.{IsInOrder};
 ghost use Rattle.replay_turns.specs.Powers.{RoseBy, disk_stops};
 ghost use Rattle.replay_turns.specs.Recordings.{posts_of_last};
-ghost use Rattle.replay_turns.specs.StepsOnDisks.{Reboots};
-ghost use Rattle.replay_turns.specs.Turns.{RunsWhileUp, target_kept};
+ghost use Rattle.replay_turns.specs.Turns.{target_kept};
 ghost use Rattle.transfer_end.specs.Calls.{posts_view};
-ghost use Rattle.upload_replay.specs.Drivers.{BeginsUnit, GoesOn, HoldsUnit, IsTiedTo};
-ghost use Rattle.upload_replay.specs.Drivers.{StandsOn};
+ghost use Rattle.upload_replay.specs.Drivers.{BeginsOnSetting, BeginsUnit, CanEnd, HoldsUnit};
+ghost use Rattle.upload_replay.specs.Drivers.{IsTiedTo, StandsOn};
 ghost use Rattle.upload_replay.specs.DriverSteps.{ActsOnDisk, CanStep, TakesStep};
 ghost use Rattle.upload_replay.specs.Drives.{IsSet, IsUnitRun};
 ghost use Rattle.upload_replay.specs.Drives.{has_session};
 ghost use Rattle.upload_replay.specs.Endings.{EndsUnit, FailsToBegin, FailedIfUnknown, HoldsSome};
 ghost use Rattle.upload_replay.specs.Endings.{IsEndFault, LeavesUnit, first_fault_of};
 ghost use Rattle.upload_replay.specs.Lives.{LivesOn, LivesThrough};
-ghost use Rattle.upload_replay.specs.Moments.{Clocks, HoldsThroughout};
+ghost use Rattle.upload_replay.specs.Moments.{Clocks, HoldsToEnd};
 
 use crate::ending::standing_at_end;
 use crate::outcome::{Drive, DriveFault};
@@ -85,16 +83,10 @@ impl<'m, R: Rule> Driver<'m, R> {
         // With Ok.
         ensures begins { IfOk result (λ driver. BeginsUnit interlock.now (set_view media.now) driver
             (K.state disk.old) (K.state disk.new)) }
-        ensures stands { (set : Setting) (image : Image) → IsSet R.may_say set interlock.now
+        ensures on_setting { (set : Setting) (image : Image) → IsSet R.may_say set interlock.now
             (set_view media.now) image → (K.state disk.old).reads ≡ Some image
-            → IfOk result (λ driver. StandsOn R.may_say set driver) }
-        ensures tied { (set : Setting) (image : Image) → IsSet R.may_say set interlock.now
-            (set_view media.now) image → (K.state disk.old).reads ≡ Some image
-            → IfOk result (λ driver. IsTiedTo set driver) }
-        ensures held { (set : Setting) (image : Image) → IsSet R.may_say set interlock.now
-            (set_view media.now) image → (K.state disk.old).reads ≡ Some image
-            → LosesOnlyWork (K.state disk.old) → IfOk result (λ driver. HoldsUnit set
-            (K.state disk.old).clock [] driver (K.state disk.new)) }
+            → IfOk result (λ driver. BeginsOnSetting R.may_say set driver (K.state disk.old)
+            (K.state disk.new)) }
         ensures lives { (accepts : Accepts) → FollowsAccepts R.may_say interlock.now accepts
             → IfOk result (λ driver. LivesOn R.may_say accepts driver) }
         ensures stood { OnOk result (HoldsSome (K.state disk.old)) }
@@ -212,10 +204,9 @@ impl<'m, R: Rule> Driver<'m, R> {
     /// The end comes: what each session came to, and what the disk holds. Where the target is down
     /// the disk is restarted first.
     pub fn end<K: Power>(self, disk: &mut K) -> Result<Drive, DriveFault>
-        requires goes_on { GoesOn self }
-        requires running { RunsWhileUp self.target (K.state disk.old) }
+        requires { CanEnd self (K.state disk.old) }
         // With Ok.
-        ensures ended { IfOk result (λ drive. EndsUnit self.entry.steps self.entry.loader drive
+        ensures ended { IfOk result (λ drive. EndsUnit self.entry drive (K.state disk.old)
             (K.state disk.new)) }
         ensures lives { (accepts : Accepts) → LivesOn R.may_say accepts self.entry
             → IfOk result (λ drive. LivesThrough (media_of self.entry.loader.set) accepts
@@ -224,20 +215,13 @@ impl<'m, R: Rule> Driver<'m, R> {
             → IsTiedTo set self.entry → IfOk result (λ drive. IsUnitRun set
             (steps_of drive.trace.items) (map session_view drive.sessions.items)
             (option_map standing_view drive.standing)) }
-        ensures moments { (set : Setting) (since : ℕ) (clocks : Clocks)
+        ensures held { (set : Setting) (since : ℕ) (clocks : Clocks)
             → HoldsUnit set since clocks self.entry (K.state disk.old)
-            → IfOk result (λ drive. HoldsThroughout set (steps_of drive.trace.items)
-            (option_map standing_view drive.standing) since ((K.state disk.old).clock ∷ clocks)
-            (K.state disk.new)) }
-        ensures rests { (set : Setting) (since : ℕ) (clocks : Clocks)
-            → HoldsUnit set since clocks self.entry (K.state disk.old)
-            → IfOk result (λ drive. is_some drive.standing ≡ true
-            → LosesOnlyWork (K.state disk.new)) }
+            → IfOk result (λ drive. HoldsToEnd set (steps_of drive.trace.items) drive.standing
+            since ((K.state disk.old).clock ∷ clocks) (K.state disk.new)) }
         ensures unknown { (began : ℕ) → RoseBy (disk_stops self.entry.steps) began
             (K.state disk.old).faults → IfOk result (λ drive. FailedIfUnknown drive.standing began
             (disk_stops self.entry.steps) (K.state disk.new)) }
-        ensures reboots { is_some self.entry.target ≡ false
-            → OnOk result (Reboots (K.state disk.old) (K.state disk.new)) }
         // Refusals, and whatever it answers.
         ensures refused { IfErr result (λ fault. IsEndFault fault (K.state disk.old)
             (K.state disk.new)) }

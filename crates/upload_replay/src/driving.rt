@@ -1,22 +1,19 @@
 //! A whole run.
-ghost use Rattle.std.specs.Prelude.{◌≡◌, ◌⊎◌, [], Some, map, option_map};
-ghost use Rattle.std.specs.Prelude.{true, is_some, IfOk};
+ghost use Rattle.std.specs.Prelude.{◌≡◌, [], IfOk, Some};
 ghost use Rattle.accept_rules.specs.Interlocks.{FollowsAccepts};
+ghost use Rattle.accept_rules.specs.Permissions.{Accepts};
 ghost use Rattle.bank_store.specs.DiskWrites.{IsRunning};
 ghost use Rattle.bank_store.specs.Fits.{LosesOnlyWork};
-ghost use Rattle.disk_layout.specs.Holds.{standing_view};
 ghost use Rattle.disk_model.specs.Image.{Image};
 ghost use Rattle.exchange_trace.specs.Steps.{steps_of};
-ghost use Rattle.loader_machine.specs.Machine.{media_of, session_view};
+ghost use Rattle.loader_machine.specs.Machine.{media_of};
 ghost use Rattle.media_check.specs.Sets.{set_view};
 ghost use Rattle.replay_rules.specs.BothEnds.{Setting};
 ghost use Rattle.upload_replay.specs.Armings.{ArmsAsGiven};
-ghost use Rattle.upload_replay.specs.Drives.{IsDrivenRun, IsSet, NeverBoots};
-ghost use Rattle.upload_replay.specs.Endings.{EndsRun, IsRefused};
-ghost use Rattle.upload_replay.specs.Leaves.{LeavesHistory};
+ghost use Rattle.upload_replay.specs.Drives.{IsSet};
+ghost use Rattle.upload_replay.specs.Endings.{EndsOnSetting, EndsRun, IsRefused};
+ghost use Rattle.upload_replay.specs.Leaves.{LeavesOfRun};
 ghost use Rattle.upload_replay.specs.Lives.{LivesThrough};
-ghost use Rattle.accept_rules.specs.Permissions.{Accepts, AcceptsPermitted};
-ghost use Rattle.upload_replay.specs.Moments.{HoldsAllAlong, LeavesGood};
 
 use crate::driver::Driver;
 use crate::outcome::{Drive, DriveFault};
@@ -48,20 +45,10 @@ pub fn drive<L: Link, K: Power, R: Rule>(
         → IfOk result (λ drive. LivesThrough (media_of (set_view media.now)) accepts
         (steps_of drive.trace.items)) }
     // The same on a disk that tells its content.
-    ensures run { (set : Setting) (image : Image) → IsSet R.may_say set interlock.now
-        (set_view media.now) image → (K.state disk.old).reads ≡ Some image → IfOk result
-        (λ drive. NeverBoots (steps_of drive.trace.items) ⊎ LosesOnlyWork (K.state disk.old)
-        → IsDrivenRun set (L.state link.old) (L.state link.new) (steps_of drive.trace.items)
-        (map session_view drive.sessions.items) (option_map standing_view drive.standing)) }
-    ensures moments { (set : Setting) (image : Image) → IsSet R.may_say set interlock.now
+    ensures on_setting { (set : Setting) (image : Image) → IsSet R.may_say set interlock.now
         (set_view media.now) image → (K.state disk.old).reads ≡ Some image
-        → LosesOnlyWork (K.state disk.old) → IfOk result (λ drive. HoldsAllAlong set
-        (steps_of drive.trace.items) (option_map standing_view drive.standing)
+        → IfOk result (λ drive. EndsOnSetting set (L.state link.old) (L.state link.new) drive
         (K.state disk.old) (K.state disk.new)) }
-    ensures rests { (set : Setting) (image : Image) → IsSet R.may_say set interlock.now
-        (set_view media.now) image → (K.state disk.old).reads ≡ Some image
-        → LosesOnlyWork (K.state disk.old) → IfOk result (λ drive.
-        is_some drive.standing ≡ true → LosesOnlyWork (K.state disk.new)) }
     // Refusals.
     ensures refused { IsRefused (L.faults link.old) (L.faults link.new) (K.state disk.old)
         (K.state disk.new) (L.state link.old) (L.state link.new) result }
@@ -70,12 +57,8 @@ pub fn drive<L: Link, K: Power, R: Rule>(
         (K.state disk.old) (K.state disk.new) }
     ensures leaves { (set : Setting) (image : Image) → IsSet R.may_say set interlock.now
         (set_view media.now) image → (K.state disk.old).reads ≡ Some image
-        → LosesOnlyWork (K.state disk.old) → LeavesHistory set (L.state link.old)
+        → LosesOnlyWork (K.state disk.old) → LeavesOfRun set (L.state link.old)
         (L.state link.new) (K.state disk.old).clock (K.state disk.new) result }
-    ensures good { (set : Setting) (image : Image) → IsSet R.may_say set interlock.now
-        (set_view media.now) image → (K.state disk.old).reads ≡ Some image
-        → LosesOnlyWork (K.state disk.old) → AcceptsPermitted set.accepts
-        → LeavesGood set (K.state disk.old).clock (K.state disk.new) }
 {
     // For the proof: these do nothing.
     a_power_loss_takes_only_work::<K>();

@@ -3,9 +3,9 @@ ghost use Rattle.std.specs.Prelude.{◌≡◌, ◌⊎◌, ◌≤◌, ℕ, None, 
 ghost use Rattle.bank_store.specs.DiskWrites.{IsRunning};
 ghost use Rattle.disk_model.specs.State.{IsSettled, KeepsPower, OnlyReads};
 ghost use Rattle.replay_turns.specs.Powers.{RoseBy};
-ghost use Rattle.replay_turns.specs.StepsOnDisks.{LeavesNoMore, Reboots};
+ghost use Rattle.replay_turns.specs.StepsOnDisks.{Reboots};
 ghost use Rattle.upload_replay.specs.Endings.{FailedIfUnknown, HoldsStanding, IsLastFault};
-ghost use Rattle.upload_replay.specs.Endings.{last_refusal_of};
+ghost use Rattle.upload_replay.specs.Endings.{LeavesUnit, last_refusal_of};
 
 use crate::outcome::DriveFault;
 use disk_layout::{RecoverFault, Standing};
@@ -22,12 +22,10 @@ pub(crate) fn standing_at_end<K: Disk>(
     requires { up ≡ true → IsRunning (K.state disk.old) }
     ensures unknown { (began stops : ℕ) → RoseBy stops began (K.state disk.old).faults
         → IfOk result (λ standing. FailedIfUnknown standing began stops (K.state disk.new)) }
-    ensures faults { (K.state disk.old).faults ≤ (K.state disk.new).faults }
     ensures standing { IfOk result (λ standing. HoldsStanding standing (K.state disk.new)) }
     ensures refused { IfErr result (λ fault. IsLastFault fault (K.state disk.old)
         (K.state disk.new)) }
-    ensures power { KeepsPower (K.state disk.old) (K.state disk.new) }
-    ensures leaves { LeavesNoMore (K.state disk.old) (K.state disk.new) }
+    ensures leaves { LeavesUnit (K.state disk.old) (K.state disk.new) }
     ensures same { up ≡ true → OnOk result ((K.state disk.new).reads ≡ (K.state disk.old).reads)
         ⊎ IfOk result (λ standing. standing ≡ None) }
     ensures settled { up ≡ false → OnOk result (IsSettled (K.state disk.new))

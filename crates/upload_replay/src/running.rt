@@ -6,9 +6,8 @@ ghost use Rattle.link_net.specs.Links.{LinkState};
 ghost use Rattle.media_check.specs.Sets.{SetView};
 ghost use Rattle.replay_rules.specs.BothEnds.{Setting};
 ghost use Rattle.upload_replay.specs.Armings.{ArmsAsGiven};
-ghost use Rattle.upload_replay.specs.Drivers.{IsDriverReady, IsUnderWay, RunGoesOn, RunsOnDisk};
-ghost use Rattle.upload_replay.specs.Drivers.{StandsOn};
-ghost use Rattle.upload_replay.specs.Drives.{NeverBoots};
+ghost use Rattle.upload_replay.specs.Drivers.{IsDriverReady, IsUnderWay, RunsOnDisk, StandsOn};
+ghost use Rattle.upload_replay.specs.Drivers.{StaysOnSetting};
 ghost use Rattle.upload_replay.specs.Drives.{is_end as is_end_of};
 ghost use Rattle.upload_replay.specs.Leaves.{LeavesHistory};
 ghost use Rattle.upload_replay.specs.Lives.{LivesOn};
@@ -38,17 +37,9 @@ pub(crate) fn run_to_end<L: Link, K: Power, R: Rule>(
         began (L.state link.new) faults media driver.new (K.state disk.new)) }
     ensures lives { (accepts : Accepts) → LivesOn R.may_say accepts driver.old
         → OnOk result (LivesOn R.may_say accepts driver.new) }
-    ensures stands { (set : Setting) → StandsOn R.may_say set driver.old
-        → OnOk result (StandsOn R.may_say set driver.new) }
-    ensures goes_on { (set : Setting) (began : LinkState) → StandsOn R.may_say set driver.old
-        → (NeverBoots driver.old.steps
-        → RunGoesOn set false began (L.state link.old) driver.old)
-        → OnOk result (NeverBoots driver.new.steps
-        → RunGoesOn set true began (L.state link.new) driver.new) }
-    ensures held { (set : Setting) (began : LinkState) (since : ℕ)
-        → StandsOn R.may_say set driver.old → RunsOnDisk set false began (L.state link.old) since
-        driver.old (K.state disk.old) → OnOk result (RunsOnDisk set true began
-        (L.state link.new) since driver.new (K.state disk.new)) }
+    ensures on_setting { (set : Setting) → StandsOn R.may_say set driver.old
+        → OnOk result (StaysOnSetting R.may_say set true (L.state link.old) (L.state link.new)
+        driver.old driver.new (K.state disk.old) (K.state disk.new)) }
     // Whatever it answers.
     ensures refused { EndsTurn (L.faults link.old) (L.faults link.new) result }
     ensures arms { ArmsAsGiven (L.state link.old).given (L.state link.new).given
@@ -89,17 +80,9 @@ fn turn<L: Link, K: Power, R: Rule>(
         IsUnderWay ended began (L.state link.new) faults media driver.new (K.state disk.new)) }
     ensures lives { (accepts : Accepts) → LivesOn R.may_say accepts driver.old
         → OnOk result (LivesOn R.may_say accepts driver.new) }
-    ensures stands { (set : Setting) → StandsOn R.may_say set driver.old
-        → OnOk result (StandsOn R.may_say set driver.new) }
-    ensures goes_on { (set : Setting) (began : LinkState) → StandsOn R.may_say set driver.old
-        → (NeverBoots driver.old.steps
-        → RunGoesOn set false began (L.state link.old) driver.old)
-        → IfOk result (λ ended. NeverBoots driver.new.steps
-        → RunGoesOn set ended began (L.state link.new) driver.new) }
-    ensures held { (set : Setting) (began : LinkState) (since : ℕ)
-        → StandsOn R.may_say set driver.old → RunsOnDisk set false began (L.state link.old) since
-        driver.old (K.state disk.old) → IfOk result (λ ended. RunsOnDisk set ended began
-        (L.state link.new) since driver.new (K.state disk.new)) }
+    ensures on_setting { (set : Setting) → StandsOn R.may_say set driver.old
+        → IfOk result (λ ended. StaysOnSetting R.may_say set ended (L.state link.old)
+        (L.state link.new) driver.old driver.new (K.state disk.old) (K.state disk.new)) }
     // Whatever it answers.
     ensures refused { EndsTurn (L.faults link.old) (L.faults link.new) result }
     ensures arms { ArmsAsGiven (L.state link.old).given (L.state link.new).given

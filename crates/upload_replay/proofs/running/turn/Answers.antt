@@ -18,20 +18,19 @@ returns-in_err-happening-clause-leaves g c =
     (all_held set disk (g.met.K.Disk.wider c.args.disk.now) (g.met.K.Disk.splits c.args.disk.now) (g.met.K.Disk.only_now c.args.disk.now) since runs.clocks c.args.driver.now.steps c.args.driver.now.target runs.held) (Err fault)
     (g.L.Link.state c.args.link.now) runs.goes_on.linked))
 
-pub returns-then-is_end-clause-goes_on : goal.returns-then-is_end-clause-goes_on
-returns-then-is_end-clause-goes_on g c =
-    λ set began stands before never.
-    end_on set began (g.L.Link.state c.args.link.now) (g.L.Link.state c.next.new.self) c.args.driver.now (happening_view c.in_ok-happening.happening) c.waits-waits.result.loader c.waits-waits.result.target
-    (is_the_end (happening_view c.in_ok-happening.happening) (sym c.is_end.ensures ∙ c.if-is_end.true)) c.waits-waits.ensures.loader c.waits-waits.ensures.target c.in_ok-happening.ensures.ok (before never)
-
-pub returns-then-is_end-clause-held : goal.returns-then-is_end-clause-held
-returns-then-is_end-clause-held g c =
-    λ set began since stands runs.
+pub returns-then-is_end-clause-on_setting : goal.returns-then-is_end-clause-on_setting
+returns-then-is_end-clause-on_setting g c =
+    λ set stands.
     record {
-      goes_on = end_on set began (g.L.Link.state c.args.link.now) (g.L.Link.state c.next.new.self) c.args.driver.now (happening_view c.in_ok-happening.happening) c.waits-waits.result.loader c.waits-waits.result.target
-          (is_the_end (happening_view c.in_ok-happening.happening) (sym c.is_end.ensures ∙ c.if-is_end.true)) c.waits-waits.ensures.loader c.waits-waits.ensures.target c.in_ok-happening.ensures.ok runs.goes_on;
-      clocks = runs.clocks;
-      held = runs.held;
+      stands = stands;
+      goes_on = λ began before never. end_on set began (g.L.Link.state c.args.link.now) (g.L.Link.state c.next.new.self) c.args.driver.now (happening_view c.in_ok-happening.happening) c.waits-waits.result.loader c.waits-waits.result.target
+          (is_the_end (happening_view c.in_ok-happening.happening) (sym c.is_end.ensures ∙ c.if-is_end.true)) c.waits-waits.ensures.loader c.waits-waits.ensures.target c.in_ok-happening.ensures.ok (before never);
+      held = λ began since runs. record {
+        goes_on = end_on set began (g.L.Link.state c.args.link.now) (g.L.Link.state c.next.new.self) c.args.driver.now (happening_view c.in_ok-happening.happening) c.waits-waits.result.loader c.waits-waits.result.target
+            (is_the_end (happening_view c.in_ok-happening.happening) (sym c.is_end.ensures ∙ c.if-is_end.true)) c.waits-waits.ensures.loader c.waits-waits.ensures.target c.in_ok-happening.ensures.ok runs.goes_on;
+        clocks = runs.clocks;
+        held = runs.held;
+      };
     }
 
 pub returns-then-is_end-clause-arms : goal.returns-then-is_end-clause-arms
@@ -61,26 +60,26 @@ returns-in-Err-post_all-clause-arms g c =
     arms_one _ _ (happening_view c.in_ok-happening.happening) (g.K.Disk.state c.args.disk.now) (g.K.Disk.state c.step.new.disk)
     (ap (λ (l : LinkState). l.given) c.post_all.ensures.in_part.linked ∙ c.in_ok-happening.ensures.ok.given) c.step.ensures.acts.arms
 
-pub returns-in-Ok-post_all-clause-goes_on : goal.returns-in-Ok-post_all-clause-goes_on
-returns-in-Ok-post_all-clause-goes_on g c =
-    λ set began stands before all.
+pub returns-in-Ok-post_all-clause-on_setting : goal.returns-in-Ok-post_all-clause-on_setting
+returns-in-Ok-post_all-clause-on_setting g c =
+    λ set stands.
     let stepped = c.in-Ok.ensures.takes.stepped in
-    let never = rw stepped.recorded at all in
-    let on = before never.1 in
-    turn_on set began (g.L.Link.state c.args.link.now) (g.L.Link.state c.next.new.self) (g.L.Link.state c.post_all.new.link) c.args.driver.now c.step.new.self (happening_view c.in_ok-happening.happening) (posts_view c.in-Ok.posts)
-    (g.K.Disk.state c.args.disk.now) (g.K.Disk.state c.step.new.disk) stepped c.waits-waits.result.loader c.waits-waits.result.target c.waits-waits.ensures.loader c.waits-waits.ensures.target c.in_ok-happening.ensures.ok
-    c.in-Ok-post_all.ensures.posts on (c.in-Ok.ensures.takes.tied set stands (λ none. (before none).tied) all)
-
-pub returns-in-Ok-post_all-clause-held : goal.returns-in-Ok-post_all-clause-held
-returns-in-Ok-post_all-clause-held g c =
-    λ set began since stands runs.
-    let unit = c.in-Ok.ensures.takes.held set since runs.clocks stands (record { tied = runs.goes_on.tied; held = runs.held }) in
     record {
-      goes_on = turn_on set began (g.L.Link.state c.args.link.now) (g.L.Link.state c.next.new.self) (g.L.Link.state c.post_all.new.link) c.args.driver.now c.step.new.self (happening_view c.in_ok-happening.happening) (posts_view c.in-Ok.posts)
-          (g.K.Disk.state c.args.disk.now) (g.K.Disk.state c.step.new.disk) c.in-Ok.ensures.takes.stepped c.waits-waits.result.loader c.waits-waits.result.target c.waits-waits.ensures.loader c.waits-waits.ensures.target c.in_ok-happening.ensures.ok
-          c.in-Ok-post_all.ensures.posts runs.goes_on unit.tied;
-      clocks = (g.K.Disk.state c.args.disk.now).clock ∷ runs.clocks;
-      held = unit.held;
+      stands = c.in-Ok.ensures.takes.stands set stands;
+      goes_on = λ began before all.
+          let never = rw stepped.recorded at all in
+          turn_on set began (g.L.Link.state c.args.link.now) (g.L.Link.state c.next.new.self) (g.L.Link.state c.post_all.new.link) c.args.driver.now c.step.new.self (happening_view c.in_ok-happening.happening) (posts_view c.in-Ok.posts)
+          (g.K.Disk.state c.args.disk.now) (g.K.Disk.state c.step.new.disk) stepped c.waits-waits.result.loader c.waits-waits.result.target c.waits-waits.ensures.loader c.waits-waits.ensures.target c.in_ok-happening.ensures.ok
+          c.in-Ok-post_all.ensures.posts (before never.1) (c.in-Ok.ensures.takes.tied set stands (λ none. (before none).tied) all);
+      held = λ began since runs.
+          let unit = c.in-Ok.ensures.takes.held set since runs.clocks stands (record { tied = runs.goes_on.tied; held = runs.held }) in
+          record {
+            goes_on = turn_on set began (g.L.Link.state c.args.link.now) (g.L.Link.state c.next.new.self) (g.L.Link.state c.post_all.new.link) c.args.driver.now c.step.new.self (happening_view c.in_ok-happening.happening) (posts_view c.in-Ok.posts)
+                (g.K.Disk.state c.args.disk.now) (g.K.Disk.state c.step.new.disk) stepped c.waits-waits.result.loader c.waits-waits.result.target c.waits-waits.ensures.loader c.waits-waits.ensures.target c.in_ok-happening.ensures.ok
+                c.in-Ok-post_all.ensures.posts runs.goes_on unit.tied;
+            clocks = (g.K.Disk.state c.args.disk.now).clock ∷ runs.clocks;
+            held = unit.held;
+          };
     }
 
 pub returns-in-Err-post_all-clause-leaves : goal.returns-in-Err-post_all-clause-leaves

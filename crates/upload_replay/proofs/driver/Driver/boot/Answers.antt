@@ -20,12 +20,25 @@ returns-in-Ok-clause-begins g c = record {
   identity = c.identity.ensures;
 }
 
-pub returns-in-Ok-clause-stands : goal.returns-in-Ok-clause-stands
-returns-in-Ok-clause-stands g c = λ set image is told. record {
-  media = is.media ∙ ap (λ (l : LoaderState). media_of l.set) (sym c.new-in-Ok.ensures);
-  accepts = is.accepts;
-  up = subst (λ rule. FollowsAccepts g.R.Rule.may_say rule set.accepts) (sym c.in-Ok.ensures.comes_up.rule_is) is.accepts;
-}
+pub returns-in-Ok-clause-on_setting : goal.returns-in-Ok-clause-on_setting
+returns-in-Ok-clause-on_setting g c = λ set image is told.
+    let old = g.K.Disk.state c.args.disk.now in
+    let one = c.an_image_holds_one_configuration.ensures.one_standing in
+    record {
+      stands = record {
+        media = is.media ∙ ap (λ (l : LoaderState). media_of l.set) (sym c.new-in-Ok.ensures);
+        accepts = is.accepts;
+        up = subst (λ rule. FollowsAccepts g.R.Rule.may_say rule set.accepts) (sym c.in-Ok.ensures.comes_up.rule_is) is.accepts;
+      };
+      tied = begins_tied set _ c.in-Ok.target c.new.ensures (ap (λ (l : LoaderState). l.view) c.new-in-Ok.ensures) refl
+          (comes_up_with one c.args.interlock.now c.in-Ok.target old image set.start c.in-Ok.ensures.comes_up told is.start);
+      held = λ loses. record {
+        tied = begins_tied set _ c.in-Ok.target c.new.ensures (ap (λ (l : LoaderState). l.view) c.new-in-Ok.ensures) refl
+            (comes_up_with one c.args.interlock.now c.in-Ok.target old image set.start c.in-Ok.ensures.comes_up told is.start);
+        held = rw c.new.ensures (begins_held one set c.args.interlock.now c.in-Ok.target old (g.K.Disk.state c.boot.new.disk) image (c.a_power_loss_takes_only_work.ensures.holds c.args.disk.now image set.start loses told is.start) told
+            (g.met.K.Disk.reads_now c.args.disk.now image told) (c.in-Ok.ensures.starts loses image told) c.in-Ok.ensures.reads_disk.only_reads c.in-Ok.ensures.comes_up);
+      };
+    }
 
 pub returns-in-Ok-clause-lives : goal.returns-in-Ok-clause-lives
 returns-in-Ok-clause-lives g c = λ accepts follows. record {
@@ -33,22 +46,6 @@ returns-in-Ok-clause-lives g c = λ accepts follows. record {
   up = subst (λ rule. FollowsAccepts g.R.Rule.may_say rule accepts) (sym c.in-Ok.ensures.comes_up.rule_is) follows;
   lived = born accepts c.args.interlock.now (media_of c.new-in-Ok.result.set) c.new.result c.in-Ok.target (g.K.Disk.state c.args.disk.now) c.new.ensures c.in-Ok.ensures.comes_up;
 }
-
-pub returns-in-Ok-clause-tied : goal.returns-in-Ok-clause-tied
-returns-in-Ok-clause-tied g c = λ set image is told.
-    begins_tied set _ c.in-Ok.target c.new.ensures (ap (λ (l : LoaderState). l.view) c.new-in-Ok.ensures) refl
-    (comes_up_with c.an_image_holds_one_configuration.ensures.one_standing c.args.interlock.now c.in-Ok.target (g.K.Disk.state c.args.disk.now) image set.start c.in-Ok.ensures.comes_up told is.start)
-
-pub returns-in-Ok-clause-held : goal.returns-in-Ok-clause-held
-returns-in-Ok-clause-held g c = λ set image is told loses.
-    let old = g.K.Disk.state c.args.disk.now in
-    let one = c.an_image_holds_one_configuration.ensures.one_standing in
-    record {
-      tied = begins_tied set _ c.in-Ok.target c.new.ensures (ap (λ (l : LoaderState). l.view) c.new-in-Ok.ensures) refl
-          (comes_up_with one c.args.interlock.now c.in-Ok.target old image set.start c.in-Ok.ensures.comes_up told is.start);
-      held = rw c.new.ensures (begins_held one set c.args.interlock.now c.in-Ok.target old (g.K.Disk.state c.boot.new.disk) image (c.a_power_loss_takes_only_work.ensures.holds c.args.disk.now image set.start loses told is.start) told
-          (g.met.K.Disk.reads_now c.args.disk.now image told) (c.in-Ok.ensures.starts loses image told) c.in-Ok.ensures.reads_disk.only_reads c.in-Ok.ensures.comes_up);
-    }
 
 pub returns-in-Err-clause-refused : goal.returns-in-Err-clause-refused
 returns-in-Err-clause-refused g c =

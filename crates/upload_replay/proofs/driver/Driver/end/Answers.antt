@@ -39,23 +39,21 @@ returns-in-Ok-standing_at_end-clause-run g c =
     unit_run c.args.self c.requires.goes_on (steps_of c.into_trace.result.items) steps (map session_view c.into_sessions-sessions.result.items) (rw (sym c.self.view_is) c.into_sessions-sessions.ensures)
     c.a_run_keeps_its_promises.ensures set (option_map standing_view c.in-Ok-standing_at_end.standing) tied
 
-pub returns-in-Ok-standing_at_end-clause-moments : goal.returns-in-Ok-standing_at_end-clause-moments
-returns-in-Ok-standing_at_end-clause-moments g c =
+pub returns-in-Ok-standing_at_end-clause-held : goal.returns-in-Ok-standing_at_end-clause-held
+returns-in-Ok-standing_at_end-clause-held g c =
     λ set since clocks unit.
     let old = g.K.Disk.state c.args.disk.now in
     let new = g.K.Disk.state c.standing_at_end.new.disk in
-    let steps : steps_of c.into_trace.result.items ≡ end_step ∷ c.args.self.steps = c.into_trace.ensures.steps ∙ (c.in-Ok.ensures.given ∙ ap (λ (list : List Step). end_step ∷ list) (ap (λ d. d.steps) c.self.view_is)) in
-    subst (λ (list : List Step). HoldsThroughout set list (option_map standing_view c.in-Ok-standing_at_end.standing) since (old.clock ∷ clocks) new) (sym steps)
-    (throughout c.an_image_holds_one_configuration.ensures.one_standing set since (old.clock ∷ clocks) (end_step ∷ c.args.self.steps) c.args.self.target old new c.in-Ok-standing_at_end.standing (g.met.K.Disk.counts_now c.args.disk.now)
-    (g.met.K.Disk.only_now c.args.disk.now) (g.met.K.Disk.reads_now c.standing_at_end.new.disk) (held_to_end set since clocks c.args.self.steps c.args.self.target old (g.met.K.Disk.only_now c.args.disk.now) unit.held)
-    c.standing_at_end.ensures.leaves c.in-Ok-standing_at_end.ensures.standing
-    (settled_if (is_some c.args.self.target) new c.in-Ok-standing_at_end.standing (λ down. c.in-Ok-standing_at_end.ensures.settled (c.is_some-up.ensures ∙ (ap (λ d. is_some d.target) c.self.view_is ∙ down)))))
-
-pub returns-in-Ok-standing_at_end-clause-rests : goal.returns-in-Ok-standing_at_end-clause-rests
-returns-in-Ok-standing_at_end-clause-rests g c =
-    λ set since clocks unit known.
     let up = c.is_some-up.ensures ∙ ap (λ d. is_some d.target) c.self.view_is in
-    rests_on set c.args.self.steps c.args.self.target (g.K.Disk.state c.args.disk.now) (g.K.Disk.state c.standing_at_end.new.disk) c.in-Ok-standing_at_end.standing unit.held.holds c.standing_at_end.ensures.leaves known
-    c.in-Ok-standing_at_end.ensures.standing (λ is. c.in-Ok-standing_at_end.ensures.same (up ∙ is)) (λ is. c.in-Ok-standing_at_end.ensures.settled (up ∙ is))
-    (λ store image told works. c.a_power_loss_takes_only_work.ensures.works store c.args.disk.now image told works) (λ same none was. c.a_power_loss_takes_only_work.ensures.still c.args.disk.now c.standing_at_end.new.disk same none was)
-    (λ image s told held settled. c.a_power_loss_takes_only_work.ensures.settled c.standing_at_end.new.disk image s told held settled)
+    let steps : steps_of c.into_trace.result.items ≡ end_step ∷ c.args.self.steps = c.into_trace.ensures.steps ∙ (c.in-Ok.ensures.given ∙ ap (λ (list : List Step). end_step ∷ list) (ap (λ d. d.steps) c.self.view_is)) in
+    record {
+      moments = subst (λ (list : List Step). HoldsThroughout set list (option_map standing_view c.in-Ok-standing_at_end.standing) since (old.clock ∷ clocks) new) (sym steps)
+          (throughout c.an_image_holds_one_configuration.ensures.one_standing set since (old.clock ∷ clocks) (end_step ∷ c.args.self.steps) c.args.self.target old new c.in-Ok-standing_at_end.standing (g.met.K.Disk.counts_now c.args.disk.now)
+          (g.met.K.Disk.only_now c.args.disk.now) (g.met.K.Disk.reads_now c.standing_at_end.new.disk) (held_to_end set since clocks c.args.self.steps c.args.self.target old (g.met.K.Disk.only_now c.args.disk.now) unit.held)
+          c.standing_at_end.ensures.leaves.no_more c.in-Ok-standing_at_end.ensures.standing
+          (settled_if (is_some c.args.self.target) new c.in-Ok-standing_at_end.standing (λ down. c.in-Ok-standing_at_end.ensures.settled (up ∙ down))));
+      rests = λ known. rests_on set c.args.self.steps c.args.self.target old new c.in-Ok-standing_at_end.standing unit.held.holds c.standing_at_end.ensures.leaves.no_more known
+          c.in-Ok-standing_at_end.ensures.standing (λ is. c.in-Ok-standing_at_end.ensures.same (up ∙ is)) (λ is. c.in-Ok-standing_at_end.ensures.settled (up ∙ is))
+          (λ store image told works. c.a_power_loss_takes_only_work.ensures.works store c.args.disk.now image told works) (λ same none was. c.a_power_loss_takes_only_work.ensures.still c.args.disk.now c.standing_at_end.new.disk same none was)
+          (λ image s told held settled. c.a_power_loss_takes_only_work.ensures.settled c.standing_at_end.new.disk image s told held settled);
+    }

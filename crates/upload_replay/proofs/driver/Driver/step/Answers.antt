@@ -1,4 +1,4 @@
-use Rattle.std.proofs.Common.{length, sym, ap, subst, ◌∙◌}
+use Rattle.std.proofs.Common.{sym, ap, subst, ◌∙◌}
 use Rattle.std.specs.Prelude.{drop}
 use Rattle.std.proofs.lemmas.Result.{IfOk-weaker}
 use Rattle.exchange_trace.specs.Happenings.{happening_view}
