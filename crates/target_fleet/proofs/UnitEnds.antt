@@ -1,12 +1,11 @@
 -- The units of a fleet end one after the other, and the others stay.
-use Rattle.std.proofs.Common.{◌≡◌, ◌≢◌, ◌⊎◌, inl, inr, ℕ, zero, suc, ◌+◌, ◌<◌, ◌≤◌, List, [], ◌∷◌, ◌++◌, Bool, true, false, Option, Some, None, IfSome, length, arith, refl, sym, ap, subst, ◌∙◌}
+use Rattle.std.proofs.Common.{◌≡◌, ◌≢◌, ◌⊎◌, inl, inr, ℕ, zero, suc, ◌+◌, ◌<◌, ◌≤◌, List, [], ◌∷◌, ◌++◌, Bool, false, Option, Some, None, IfSome, length, arith, refl, sym, ap, subst, ◌∙◌}
 use Rattle.std.specs.Prelude.{fold, is_some, map, option_map, remove, slice_get, slice_index_or}
 use Rattle.std.proofs.lemmas.List.{append_cancel_right, length-append, map-append}
 use Rattle.std.proofs.lemmas.List.Sums.{fold-append}
 use Rattle.std.proofs.lemmas.Option.{slice_get_within}
 use Rattle.accept_rules.specs.Permissions.{Accepts}
 use Rattle.accept_rules.specs.declared.kept.KeptLoad.{KeptLoad}
-use Rattle.bank_store.specs.Fits.{LosesOnlyWork}
 use Rattle.disk_layout.specs.Holds.{standing_view}
 use Rattle.disk_model.specs.State.{DiskState}
 use Rattle.exchange_trace.specs.Happenings.{Ended, happening_view}
@@ -18,13 +17,12 @@ use Rattle.load_header.specs.declared.header.LoadHeader.{LoadHeader}
 use Rattle.loader_machine.specs.Machine.{media_of, session_view}
 use Rattle.replay_rules.specs.BothEnds.{Setting}
 use Rattle.replay_turns.specs.Orders.{Happens, SeenLine, lines_of, seen_line}
-use Rattle.replay_turns.specs.Turns.{RunsWhileUp}
 use Rattle.replay_turns.specs.Powers.{RoseBy, disk_stops}
-use Rattle.upload_replay.specs.Drivers.{DriverState, GoesOn, HoldsUnit, IsTiedTo, StandsOn, end_step}
+use Rattle.upload_replay.specs.Drivers.{CanEnd, DriverState, HoldsUnit, IsTiedTo, StandsOn, end_step}
 use Rattle.upload_replay.specs.Drives.{IsLoadersRun, IsUnitRun}
 use Rattle.upload_replay.specs.Endings.{EndsUnit, FailedIfUnknown, IsEndFault, LeavesUnit}
 use Rattle.upload_replay.specs.Lives.{LivesOn, LivesThrough}
-use Rattle.upload_replay.specs.Moments.{Clocks, HoldsThroughout}
+use Rattle.upload_replay.specs.Moments.{Clocks, HoldsToEnd}
 use Rattle.upload_replay.specs.declared.outcome.Drive.{Drive}
 use Rattle.upload_replay.specs.declared.outcome.DriveFault.{DriveFault}
 use Rattle.upload_replay.specs.declared.outcome.DriveFault.TheVariants as faults
@@ -123,24 +121,20 @@ first_taken {A = A} xs left x some is rest = first_removed xs x some is ∙ ap (
 
 module _ {R K : Type 0} (state : K → DiskState) (may_say : R → LoadHeader → List KeptLoad → Bool → Type 0) (d : DriverState R) (before after : K) where
   -- what the end of a driver promises, as one record
-  pub driver_ended : (drive : Drive) (trace : Listed TraceStep) → LeavesOlder drive.trace.items trace.items → EndsUnit d.steps d.loader drive (state after)
+  pub driver_ended : (drive : Drive) (trace : Listed TraceStep) → LeavesOlder drive.trace.items trace.items → EndsUnit d drive (state before) (state after)
       → ((accepts : Accepts) → LivesOn may_say accepts d → LivesThrough (media_of d.loader.set) accepts (steps_of drive.trace.items))
       → ((set : Setting) → StandsOn may_say set d → IsTiedTo set d → IsUnitRun set (steps_of drive.trace.items) (map session_view drive.sessions.items) (option_map standing_view drive.standing))
-      → ((set : Setting) (since : ℕ) (clocks : Clocks) → HoldsUnit set since clocks d (state before)
-      → HoldsThroughout set (steps_of drive.trace.items) (option_map standing_view drive.standing) since ((state before).clock ∷ clocks) (state after))
-      → ((set : Setting) (since : ℕ) (clocks : Clocks) → HoldsUnit set since clocks d (state before) → is_some drive.standing ≡ true → LosesOnlyWork (state after))
+      → ((set : Setting) (since : ℕ) (clocks : Clocks) → HoldsUnit set since clocks d (state before) → HoldsToEnd set (steps_of drive.trace.items) drive.standing since ((state before).clock ∷ clocks) (state after))
       → ((began : ℕ) → RoseBy (disk_stops d.steps) began (state before).faults → FailedIfUnknown drive.standing began (disk_stops d.steps) (state after))
       → LeavesUnit (state before) (state after) → EndsDriver state may_say d (record { sessions = drive.sessions; standing = drive.standing }) trace.items before after
-  driver_ended drive trace older ended lives run moments rests unknown leaves = record {
+  driver_ended drive trace older ended lives run held unknown leaves = record {
     own = (older d.steps ended.ordered ended.ended).0;
     ordered = (older d.steps ended.ordered ended.ended).1;
     ran = subst (λ (steps : List Step). IsLoadersRun (media_of d.loader.set) steps (map session_view drive.sessions.items)) ended.ended ended.ran;
     stands = ended.standing;
     lives = λ accepts on. subst (λ (steps : List Step). LivesThrough (media_of d.loader.set) accepts steps) ended.ended (lives accepts on);
     run = λ set stands tied. subst (λ (steps : List Step). IsUnitRun set steps (map session_view drive.sessions.items) (option_map standing_view drive.standing)) ended.ended (run set stands tied);
-    moments = λ set since clocks held.
-        subst (λ (steps : List Step). HoldsThroughout set steps (option_map standing_view drive.standing) since ((state before).clock ∷ clocks) (state after)) ended.ended (moments set since clocks held);
-    rests = rests;
+    held = λ set since clocks unit. subst (λ (steps : List Step). HoldsToEnd set steps drive.standing since ((state before).clock ∷ clocks) (state after)) ended.ended (held set since clocks unit);
     unknown = unknown;
     leaves = leaves;
   }
@@ -209,8 +203,8 @@ module _ {R K : Type 0} (state : K → DiskState) (may_say : R → LoadHeader �
 
   module _ (index : ℕ) (left left_then : List (DriverState R)) (ends ends_then : List UnitEnd) (traces traces_then : List (Listed TraceStep)) (mid new : List K) (so_far : EndedSoFar index left ends traces mid) where
     -- the next unit's driver and disk
-    pub next_can : ((i : ℕ) (d : DriverState R) (k : K) → slice_get drivers i ≡ Some d → slice_get first i ≡ Some k → GoesOn d × RunsWhileUp d.target (state k))
-        → (d : DriverState R) (k : K) → slice_get left 0 ≡ Some d → slice_get mid index ≡ Some k → GoesOn d × RunsWhileUp d.target (state k)
+    pub next_can : ((i : ℕ) (d : DriverState R) (k : K) → slice_get drivers i ≡ Some d → slice_get first i ≡ Some k → CanEnd d (state k))
+        → (d : DriverState R) (k : K) → slice_get left 0 ≡ Some d → slice_get mid index ≡ Some k → CanEnd d (state k)
     next_can all d k e f =
         all index d k (ap (slice_get drivers) (let same : index ≡ index + 0 = omega arith in same) ∙ (sym (so_far.rest 0) ∙ e)) (sym (so_far.later index (omega arith)) ∙ f)
 

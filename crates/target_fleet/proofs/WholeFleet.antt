@@ -23,10 +23,10 @@ use Rattle.replay_rules.specs.FirstOrGood.{ActiveIsFirstOrGood}
 use Rattle.replay_turns.proofs.PowerLemmas.{rose_not, rose_on}
 use Rattle.replay_turns.specs.Powers.{RoseBy, disk_stops}
 use Rattle.replay_rules.specs.Ties.{kept_by}
-use Rattle.replay_turns.specs.Turns.{RunsWhileUp, target_kept}
+use Rattle.replay_turns.specs.Turns.{target_kept}
 use Rattle.session_rules.specs.Target.{TargetView}
 use Rattle.target_machine.specs.Decisions as machine
-use Rattle.upload_replay.specs.Drivers.{DriverState, GoesOn, IsTiedTo, end_step}
+use Rattle.upload_replay.specs.Drivers.{CanEnd, DriverState, IsTiedTo, end_step}
 use Rattle.upload_replay.specs.Drives.{IsLoadersRun, IsSet, IsUnitRun, NeverBoots}
 use Rattle.upload_replay.specs.Endings.{CountsStops, FailedIfUnknown, HoldsSome}
 use Rattle.upload_replay.specs.Lives.{LivesThrough}
@@ -39,7 +39,7 @@ use Rattle.target_fleet.specs.AskingCalls.{IsAskedIn, places_in, running_view, s
 use Rattle.target_fleet.specs.Boots.{AllBoot, BootsUnit}
 use Rattle.target_fleet.specs.Clocks.{own_clocks}
 use Rattle.target_fleet.specs.Ends.{AllEnd, AllLeaveNoMore, EndsDriver, FailsInEnds}
-use Rattle.target_fleet.specs.Fleets.{AllEndInFleet, AllLeaveGood, AsksInBatches, CameToEnd, EndsFleet, EndsInFleet, FailsLater}
+use Rattle.target_fleet.specs.Fleets.{AllEndInFleet, AllLeaveGood, AsksInBatches, CameToEnd, EndsFleet, EndsInFleet, FailsLater, LeavesFleet}
 use Rattle.target_fleet.specs.Leaves.{AllLeave}
 use Rattle.exchange_trace.specs.Happenings.{DatagramView}
 use Rattle.exchange_trace.specs.Posts.{posted_in}
@@ -81,10 +81,10 @@ module _ {R K : Type 0} (state : K → DiskState) (may_say : R → LoadHeader �
     stops = rw boot.begins.nothing (rose_not (state old).faults (state new).faults read.faults);
     arms = rw boot.begins.nothing (arms_none [] [] (state old) (state new) refl read.power);
     lives = boot.lives;
-    stands = boot.stands;
-    tied = λ set image is told never. boot.tied set image is told;
-    held = λ set image is told loses. record { clocks = []; timed = read.clock; held = boot.held set image is told loses };
-    identity = λ set image is told. first_identity set d boot.begins.target boot.begins.target_is boot.begins.identity (boot.tied set image is told) boot.begins.nothing;
+    stands = λ set image is told. (boot.on_setting set image is told).stands;
+    tied = λ set image is told never. (boot.on_setting set image is told).tied;
+    held = λ set image is told loses. record { clocks = []; timed = read.clock; held = (boot.on_setting set image is told).held loses };
+    identity = λ set image is told. first_identity set d boot.begins.target boot.begins.target_is boot.begins.identity (boot.on_setting set image is told).tied boot.begins.nothing;
   }
 
   pub fleet_begins : FleetGoesOn state may_say rule shown false link link (record { drivers = drivers; order = []; running = None; ended = [] }) first booted
@@ -141,10 +141,14 @@ module _ {R K : Type 0} (state : K → DiskState) (may_say : R → LoadHeader �
   }
 
 -- what is left is good
-pub all_good : {R K : Type 0} (state : K → DiskState) (may_say : R → LoadHeader → List KeptLoad → Bool → Type 0) (rule : R) (shown : SetView) → ActiveIsFirstOrGood → (began link : FleetLinkState) (first disks : List K)
+all_good : {R K : Type 0} (state : K → DiskState) (may_say : R → LoadHeader → List KeptLoad → Bool → Type 0) (rule : R) (shown : SetView) → ActiveIsFirstOrGood → (began link : FleetLinkState) (first disks : List K)
     → AllLeave state may_say rule shown began link first disks → AllLeaveGood state may_say rule shown first disks
 all_good state may_say rule shown active began link first disks left i old new set image e f is told loses accepts =
     history_good active set accepts (own_link (i + 1) began) (own_link (i + 1) link) (state old).clock (state new) (Err faults.Memory) ((left i old new e f).history set image is told loses)
+
+pub left_of_fleet : {R K : Type 0} (state : K → DiskState) (may_say : R → LoadHeader → List KeptLoad → Bool → Type 0) (rule : R) (shown : SetView) → ActiveIsFirstOrGood → (began link : FleetLinkState) (first disks : List K)
+    → length disks ≡ length first → AllLeave state may_say rule shown began link first disks → LeavesFleet state may_say rule shown began link first disks
+left_of_fleet state may_say rule shown active began link first disks same left = record { same = same; history = left; good = all_good state may_say rule shown active began link first disks left }
 
 -- ---- as it ends
 
@@ -179,13 +183,13 @@ module _ {R K : Type 0} (state : K → DiskState) (may_say : R → LoadHeader �
         subst (λ (own : List Step). IsUnitRun set own (map session_view end.sessions.items) (option_map standing_view end.standing)) own_end
         (ends.run set (runs.stands set image is told) (tied_either set image is told (subst (λ (own : List Step). NeverBoots own ⊎ LosesOnlyWork (state old)) (sym own_end) either)));
     moments = λ set image is told loses. let own = runs.held set image is told loses in
-        let held = ends.moments set (state old).clock (own_clocks unit own.clocks steps) own.held in
+        let held = (ends.held set (state old).clock (own_clocks unit own.clocks steps) own.held).moments in
         record {
           clocks = (state mid).clock ∷ own.clocks;
           held = subst (λ (all : List Step). HoldsThroughout set all (option_map standing_view end.standing) (state old).clock ((state mid).clock ∷ own_clocks unit own.clocks steps) (state new)) own_end held;
           timed = ((subst (λ (all : List Step). HoldsThroughout set all (option_map standing_view end.standing) (state old).clock ((state mid).clock ∷ own_clocks unit own.clocks steps) (state new)) own_end held).timed.0, own.timed);
         };
-    rests = λ set image is told loses. let own = runs.held set image is told loses in ends.rests set (state old).clock (own_clocks unit own.clocks steps) own.held;
+    rests = λ set image is told loses. let own = runs.held set image is told loses in (ends.held set (state old).clock (own_clocks unit own.clocks steps) own.held).rests;
   }
 
   pub came_to_end : CameToEnd (state old) (state new)
@@ -199,8 +203,8 @@ module _ {R K : Type 0} (state : K → DiskState) (may_say : R → LoadHeader �
   mid_at : (i : ℕ) (k : K) → slice_get new i ≡ Some k → (m : K) × (slice_get mid i ≡ Some m)
   mid_at i k e = there_is mid i (let lt : i < length mid = omega (arith, slice_get_within new i k e, same) in lt)
 
-  pub units_can_end : (i : ℕ) (d : DriverState R) (k : K) → slice_get fleet.drivers i ≡ Some d → slice_get mid i ≡ Some k → GoesOn d × RunsWhileUp d.target (state k)
-  units_can_end i d k e f = (ready.goes_on i d e, ready.running i d k e f)
+  pub units_can_end : (i : ℕ) (d : DriverState R) (k : K) → slice_get fleet.drivers i ≡ Some d → slice_get mid i ≡ Some k → CanEnd d (state k)
+  units_can_end i d k e f = record { goes_on = ready.goes_on i d e; running = ready.running i d k e f }
 
   pub all_leave_end : (wider : (k : K) (s t u v : ℕ) (image : Image) → s ≤ t → u ≤ v → (state k).between t u image → (state k).between s v image)
       → (splits : (k : K) (t u v : ℕ) (image : Image) → t ≤ u → u ≤ v → (state k).between t v image → (state k).between t u image ⊎ (state k).between u v image)

@@ -3,13 +3,12 @@ use Rattle.std.specs.Prelude.{◌≡◌, ℕ, ◌+◌, ◌<◌, List, [], ◌∷
 use Rattle.accept_rules.specs.Interlocks.{FollowsAccepts}
 use Rattle.accept_rules.specs.Permissions.{Accepts}
 use Rattle.accept_rules.specs.declared.kept.KeptLoad.{KeptLoad}
-use Rattle.bank_store.specs.Fits.{LosesOnlyWork}
 use Rattle.disk_model.specs.Image.{Image}
 use Rattle.disk_model.specs.State.{DiskState}
 use Rattle.load_header.specs.declared.header.LoadHeader.{LoadHeader}
 use Rattle.media_check.specs.Sets.{SetView}
 use Rattle.replay_rules.specs.BothEnds.{Setting}
-use Rattle.upload_replay.specs.Drivers.{BeginsUnit, DriverState, HoldsUnit, IsTiedTo, StandsOn}
+use Rattle.upload_replay.specs.Drivers.{BeginsOnSetting, BeginsUnit, DriverState}
 use Rattle.upload_replay.specs.Drives.{IsSet}
 use Rattle.upload_replay.specs.Endings.{FailsToBegin, HoldsSome}
 use Rattle.upload_replay.specs.Lives.{LivesOn}
@@ -59,13 +58,8 @@ pub record FailsToBoot {K : Type 0} (state : K → DiskState) (fault : FleetFaul
 -- where a power loss takes only work from it, the disk holds what the unit says.
 pub record BootsUnit {R K : Type 0} (state : K → DiskState) (may_say : R → LoadHeader → List KeptLoad → Bool → Type 0) (interlock : R) (shown : SetView) (d : DriverState R) (old new : K) : Type 0 where
   pub begins : BeginsUnit interlock shown d (state old) (state new)
-  pub stands : (set : Setting) (image : Image) → IsSet may_say set interlock shown image
-      → (state old).reads ≡ Some image → StandsOn may_say set d
-  pub tied : (set : Setting) (image : Image) → IsSet may_say set interlock shown image
-      → (state old).reads ≡ Some image → IsTiedTo set d
-  pub held : (set : Setting) (image : Image) → IsSet may_say set interlock shown image
-      → (state old).reads ≡ Some image → LosesOnlyWork (state old)
-      → HoldsUnit set (state old).clock [] d (state new)
+  pub on_setting : (set : Setting) (image : Image) → IsSet may_say set interlock shown image
+      → (state old).reads ≡ Some image → BeginsOnSetting may_say set d (state old) (state new)
   pub lives : (accepts : Accepts) → FollowsAccepts may_say interlock accepts → LivesOn may_say accepts d
   pub stood : HoldsSome (state old)
 

@@ -1,8 +1,7 @@
 -- How the units of a fleet end (docs/EXCHANGE.md, "Fleets").
-use Rattle.std.specs.Prelude.{◌≡◌, ◌≢◌, ℕ, ◌+◌, ◌<◌, List, length, [], ◌∷◌, ◌++◌, Bool, true, is_some, map, option_map, slice_get, Some, ⊤}
+use Rattle.std.specs.Prelude.{◌≡◌, ◌≢◌, ℕ, ◌+◌, ◌<◌, ◌≤◌, List, length, [], ◌∷◌, ◌++◌, Bool, map, option_map, slice_get, Some, ⊤}
 use Rattle.accept_rules.specs.Permissions.{Accepts}
 use Rattle.accept_rules.specs.declared.kept.KeptLoad.{KeptLoad}
-use Rattle.bank_store.specs.Fits.{LosesOnlyWork}
 use Rattle.disk_layout.specs.DiskReads.{IsOfDisk}
 use Rattle.disk_layout.specs.Holds.{standing_view}
 use Rattle.disk_layout.specs.declared.fault.RecoverFault.{RecoverFault}
@@ -19,11 +18,20 @@ use Rattle.upload_replay.specs.Drivers.{DriverState, HoldsUnit, IsTiedTo, Stands
 use Rattle.upload_replay.specs.Drives.{IsLoadersRun, IsUnitRun}
 use Rattle.upload_replay.specs.Endings.{FailedIfUnknown, HoldsNone, HoldsStanding, LeavesUnit}
 use Rattle.upload_replay.specs.Lives.{LivesOn, LivesThrough}
-use Rattle.upload_replay.specs.Moments.{Clocks, HoldsThroughout}
+use Rattle.upload_replay.specs.Moments.{Clocks, HoldsToEnd}
 use Rattle.target_fleet.specs.Units.{AllBetween, ChangesAt}
 use Rattle.target_fleet.specs.declared.outcome.FleetFault.{FleetFault}
 use Rattle.target_fleet.specs.declared.outcome.FleetFault.TheVariants as fleets
 use Rattle.target_fleet.specs.declared.outcome.UnitEnd.{UnitEnd}
+
+-- ---- units that haven't ended
+
+-- No unit has ended, and none has left its trace; there are eight disks at most, and a driver for each.
+pub record NoneEnded {R K : Type 0} (drivers : List (DriverState R)) (ends : List UnitEnd) (traces : List (Listed TraceStep)) (disks : List K) : Type 0 where
+  pub few : length disks ≤ 8
+  pub many : length disks ≡ length drivers
+  pub no_ends : length ends ≡ 0
+  pub no_traces : length traces ≡ 0
 
 -- ---- a unit that ended
 
@@ -39,9 +47,8 @@ pub record EndsDriver {R K : Type 0} (state : K → DiskState) (may_say : R → 
   pub stands : HoldsStanding end.standing (state new)
   pub lives : (accepts : Accepts) → LivesOn may_say accepts d → LivesThrough (media_of d.loader.set) accepts (end_step ∷ d.steps)
   pub run : (set : Setting) → StandsOn may_say set d → IsTiedTo set d → IsUnitRun set (end_step ∷ d.steps) (map session_view end.sessions.items) (option_map standing_view end.standing)
-  pub moments : (set : Setting) (since : ℕ) (clocks : Clocks) → HoldsUnit set since clocks d (state old)
-      → HoldsThroughout set (end_step ∷ d.steps) (option_map standing_view end.standing) since ((state old).clock ∷ clocks) (state new)
-  pub rests : (set : Setting) (since : ℕ) (clocks : Clocks) → HoldsUnit set since clocks d (state old) → is_some end.standing ≡ true → LosesOnlyWork (state new)
+  pub held : (set : Setting) (since : ℕ) (clocks : Clocks) → HoldsUnit set since clocks d (state old)
+      → HoldsToEnd set (end_step ∷ d.steps) end.standing since ((state old).clock ∷ clocks) (state new)
   pub unknown : (began : ℕ) → RoseBy (disk_stops d.steps) began (state old).faults → FailedIfUnknown end.standing began (disk_stops d.steps) (state new)
   pub leaves : LeavesUnit (state old) (state new)
 

@@ -1,8 +1,9 @@
 -- What a fleet comes to, and why there is no run of one (docs/EXCHANGE.md, "Fleets").
-use Rattle.std.specs.Prelude.{◌≡◌, ◌⊎◌, ℕ, ◌+◌, ◌<◌, List, ◌∷◌, ◌++◌, length, Bool, true, is_some, map, option_map, slice_get, Option, Some}
+use Rattle.std.specs.Prelude.{◌≡◌, ◌⊎◌, ℕ, ◌+◌, ◌<◌, List, [], ◌∷◌, ◌++◌, length, Bool, true, is_some, map, option_map, slice_get, Option, Some}
 use Rattle.accept_rules.specs.Interlocks.{FollowsAccepts}
 use Rattle.accept_rules.specs.Permissions.{Accepts, AcceptsPermitted}
 use Rattle.accept_rules.specs.declared.kept.KeptLoad.{KeptLoad}
+use Rattle.bank_store.specs.DiskWrites.{IsRunning}
 use Rattle.bank_store.specs.Fits.{LosesOnlyWork}
 use Rattle.disk_layout.specs.Holds.{StandingView, standing_view}
 use Rattle.disk_layout.specs.declared.standing.Standing.{Standing}
@@ -23,6 +24,7 @@ use Rattle.target_fleet.specs.Asking.{AllAsked, UnitPlace, ends_of, place_of}
 use Rattle.target_fleet.specs.Boots.{FailsToBoot}
 use Rattle.target_fleet.specs.Clocks.{AreFleetClocks, own_clocks}
 use Rattle.target_fleet.specs.Ends.{FailsToEnd}
+use Rattle.target_fleet.specs.Leaves.{AllLeave}
 use Rattle.target_fleet.specs.Units.{AllDisks, AllOnlyRead}
 use Rattle.target_fleet.specs.declared.outcome.FleetDrive.{FleetDrive}
 use Rattle.target_fleet.specs.declared.outcome.FleetFault.{FleetFault}
@@ -30,6 +32,12 @@ use Rattle.target_fleet.specs.declared.outcome.FleetFault.TheVariants as fleets
 use Rattle.target_fleet.specs.declared.outcome.UnitEnd.{UnitEnd}
 
 -- ---- the fleet
+
+-- A fleet may begin: nothing was posted to its link, which has a unit for each of the disks, and each of these runs.
+pub record FleetCanBegin {K : Type 0} (state : K → DiskState) (link : FleetLinkState) (disks : List K) : Type 0 where
+  pub nothing_posted : link.posted ≡ []
+  pub many : length disks ≡ link.units
+  pub running : AllDisks (λ (k : K). IsRunning (state k)) disks
 
 -- A fleet came to its end, which is its last step and no other; there is an outcome for each unit; and the link was posted
 -- exactly what the units posted, and gave exactly what happened, but for the uploads that it asked, of which it was told. Of the
@@ -130,3 +138,9 @@ abbrev pub AllLeaveGood : {R K : Type 0} → (state : K → DiskState)
 AllLeaveGood {R} {K} state may_say rule shown old new =
     (i : ℕ) (before after : K) (set : Setting) (image : Image) → slice_get old i ≡ Some before → slice_get new i ≡ Some after → IsSet may_say set rule shown image
     → (state before).reads ≡ Some image → LosesOnlyWork (state before) → AcceptsPermitted set.accepts → LeavesGood set (state before).clock (state after)
+
+-- However a fleet ends, there are as many disks as before, and of each is left what a run leaves of its one.
+pub record LeavesFleet {R K : Type 0} (state : K → DiskState) (may_say : R → LoadHeader → List KeptLoad → Bool → Type 0) (rule : R) (shown : SetView) (began link : FleetLinkState) (old new : List K) : Type 0 where
+  pub same : length new ≡ length old
+  pub history : AllLeave state may_say rule shown began link old new
+  pub good : AllLeaveGood state may_say rule shown old new

@@ -145,6 +145,11 @@ pub record IsFleetReady {R K : Type 0} (state : K → DiskState) (link : FleetLi
   pub posted : (i : ℕ) (d : DriverState R) → slice_get fleet.drivers i ≡ Some d → posts_of_unit (i + 1) link.posted ≡ posted_in d.steps
   pub order : AreUnits link.units fleet.order
 
+-- a fleet has as many units and disks as before
+pub record AreAsMany {K : Type 0} (link link_then : FleetLinkState) (old new : List K) : Type 0 where
+  pub units : link_then.units ≡ link.units
+  pub disks : length new ≡ length old
+
 -- Where the link began a script of so many units, a whole trace follows it, each unit on the setting of its number.
 abbrev pub FollowsOnEach : (began : FleetLinkState) → SetView → (sets : ℕ → Setting) → List StepOfFleet → Type 0
 FollowsOnEach began shown sets steps =

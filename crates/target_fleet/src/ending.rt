@@ -1,10 +1,9 @@
 //! The ends of a fleet's units.
 ghost use Rattle.std.specs.Prelude.{◌≡◌, ◌<◌, ◌≤◌, ℕ, IfErr, IfOk, OnOk, Some, length, slice_get};
-ghost use Rattle.replay_turns.specs.Turns.{RunsWhileUp};
 ghost use Rattle.target_fleet.specs.Ends.{AllEnd, AllLeaveNoMore, EndsNext, FailsInEnds};
-ghost use Rattle.target_fleet.specs.Ends.{FailsToEnd, LeavesAt, LeavesOlder};
+ghost use Rattle.target_fleet.specs.Ends.{FailsToEnd, LeavesAt, LeavesOlder, NoneEnded};
 ghost use Rattle.target_fleet.specs.Units.{AllUnits};
-ghost use Rattle.upload_replay.specs.Drivers.{DriverState, GoesOn};
+ghost use Rattle.upload_replay.specs.Drivers.{CanEnd, DriverState};
 
 use crate::booting::fault_of;
 use crate::outcome::{FleetFault, UnitEnd};
@@ -31,8 +30,8 @@ pub(crate) fn end_all<K: Power, R: Rule>(
 ) -> Result<Ends, FleetFault>
     requires few { length disks.old ≤ 8 }
     requires many { length disks.old ≡ length drivers.items }
-    requires goes_on { AllUnits (λ (i : ℕ) (d : DriverState R) (k : K). GoesOn d
-        × RunsWhileUp d.target (K.state k)) drivers.items disks.old }
+    requires can { AllUnits (λ (i : ℕ) (d : DriverState R) (k : K). CanEnd d (K.state k))
+        drivers.items disks.old }
     // With Ok.
     ensures counts { IfOk result (λ ends. (length ends.units.items ≡ length disks.old)
         × (length ends.traces.items ≡ length disks.old)) }
@@ -67,11 +66,10 @@ fn end_each<K: Power, R: Rule>(
     drivers: &mut Vec<Driver<'_, R>>,
     ends: &mut Ends,
 ) -> Result<(), FleetFault>
-    requires few { length disks.old ≤ 8 }
-    requires many { length disks.old ≡ length drivers.old.items }
-    requires none { (length ends.old.units.items ≡ 0) × (length ends.old.traces.items ≡ 0) }
-    requires goes_on { AllUnits (λ (i : ℕ) (d : DriverState R) (k : K). GoesOn d
-        × RunsWhileUp d.target (K.state k)) drivers.old.items disks.old }
+    requires none { NoneEnded drivers.old.items ends.old.units.items ends.old.traces.items
+        disks.old }
+    requires can { AllUnits (λ (i : ℕ) (d : DriverState R) (k : K). CanEnd d (K.state k))
+        drivers.old.items disks.old }
     ensures counts { OnOk result ((length ends.new.units.items ≡ length disks.old)
         × (length ends.new.traces.items ≡ length disks.old)) }
     ensures ended { OnOk result (AllEnd K.state R.may_say drivers.old.items ends.new.units.items
@@ -100,8 +98,8 @@ fn end_next<K: Power, R: Rule>(
     requires within { index < length disks.old }
     requires few { length disks.old ≤ 8 }
     requires some { 1 ≤ length drivers.old.items }
-    requires goes_on { (d : DriverState R) (k : K) → slice_get drivers.old.items 0 ≡ Some d
-        → slice_get disks.old index ≡ Some k → GoesOn d × RunsWhileUp d.target (K.state k) }
+    requires can { (d : DriverState R) (k : K) → slice_get drivers.old.items 0 ≡ Some d
+        → slice_get disks.old index ≡ Some k → CanEnd d (K.state k) }
     ensures ended { OnOk result (EndsNext K.state R.may_say index drivers.old.items
         drivers.new.items ends.old.units.items ends.new.units.items ends.old.traces.items
         ends.new.traces.items disks.old disks.new) }

@@ -10,7 +10,7 @@ ghost use Rattle.target_fleet.specs.AskedTurns.{AreBatchesReady, AsksUnit, Begin
 ghost use Rattle.target_fleet.specs.AskedTurns.{LeavesAsked, LeavesStep, StepsFleet};
 ghost use Rattle.target_fleet.specs.AskedTurns.{batch_begun, upload_of};
 ghost use Rattle.target_fleet.specs.Leaves.{AllLeave};
-ghost use Rattle.target_fleet.specs.Runs.{FleetGoesOn, IsFleetReady};
+ghost use Rattle.target_fleet.specs.Runs.{AreAsMany, FleetGoesOn, IsFleetReady};
 ghost use Rattle.upload_replay.specs.Drivers.{DriverState};
 ghost use Rattle.upload_replay.specs.DriverSteps.{CanStep};
 
@@ -115,8 +115,7 @@ fn turn<K: Power, R: Rule>(
         → IfOk result (λ ended. FleetGoesOn K.state R.may_say rule (set_view media.now) ended began
         link.new units.new first disks.new) }
     // Whatever it answers.
-    ensures count { link.new.units ≡ link.old.units }
-    ensures same { length disks.new ≡ length disks.old }
+    ensures as_many { AreAsMany link.old link.new disks.old disks.new }
     ensures leaves { (rule : R) (began : FleetLinkState) (first : List K)
         → FleetGoesOn K.state R.may_say rule (set_view media.now) false began link.old units.old
         first disks.old
@@ -151,8 +150,7 @@ fn waiting_turn<K: Power, R: Rule>(
         → IfOk result (λ ended. FleetGoesOn K.state R.may_say rule (set_view media.now) ended began
         link.new units.new first disks.new) }
     // Whatever it answers.
-    ensures count { link.new.units ≡ link.old.units }
-    ensures same { length disks.new ≡ length disks.old }
+    ensures as_many { AreAsMany link.old link.new disks.old disks.new }
     ensures leaves { (rule : R) (began : FleetLinkState) (first : List K)
         → FleetGoesOn K.state R.may_say rule (set_view media.now) false began link.old units.old
         first disks.old

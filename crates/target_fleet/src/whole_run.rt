@@ -1,13 +1,10 @@
 //! A whole run of a fleet.
-ghost use Rattle.std.specs.Prelude.{◌≡◌, [], ℕ, IfErr, IfOk, length};
-ghost use Rattle.bank_store.specs.DiskWrites.{IsRunning};
+ghost use Rattle.std.specs.Prelude.{ℕ, IfErr, IfOk};
 ghost use Rattle.media_check.specs.Sets.{set_view};
 ghost use Rattle.replay_rules.specs.BothEnds.{Setting};
-ghost use Rattle.target_fleet.specs.Fleets.{AllEndInFleet, AllLeaveGood, AsksInBatches, EndsFleet};
-ghost use Rattle.target_fleet.specs.Fleets.{IsFleetRefusal};
-ghost use Rattle.target_fleet.specs.Leaves.{AllLeave};
+ghost use Rattle.target_fleet.specs.Fleets.{AllEndInFleet, AsksInBatches, EndsFleet};
+ghost use Rattle.target_fleet.specs.Fleets.{FleetCanBegin, IsFleetRefusal, LeavesFleet};
 ghost use Rattle.target_fleet.specs.Runs.{AllStandOn, FollowsOnEach};
-ghost use Rattle.target_fleet.specs.Units.{AllDisks};
 
 use crate::batches::FleetBatches;
 use crate::booting::boot_all;
@@ -43,9 +40,7 @@ pub fn fleet<K: Power, R: Rule>(
     media: &MediaSet,
     interlock: &Interlock<R>,
 ) -> Result<FleetDrive, FleetFault>
-    requires nothing_posted { link.old.posted ≡ [] }
-    requires many { length disks.old ≡ link.old.units }
-    requires running { AllDisks (λ (k : K). IsRunning (K.state k)) disks.old }
+    requires { FleetCanBegin K.state link.old disks.old }
     // With Ok.
     ensures ended { IfOk result (λ drive. EndsFleet link.old link.new drive) }
     ensures units { IfOk result (λ drive. AllEndInFleet K.state R.may_say interlock.now
@@ -59,11 +54,8 @@ pub fn fleet<K: Power, R: Rule>(
     ensures refused { IfErr result (λ fault. IsFleetRefusal K.state fault link.old link.new
         disks.old disks.new) }
     // Whatever it answers.
-    ensures same { length disks.new ≡ length disks.old }
-    ensures leaves { AllLeave K.state R.may_say interlock.now (set_view media.now) link.old link.new
-        disks.old disks.new }
-    ensures good { AllLeaveGood K.state R.may_say interlock.now (set_view media.now) disks.old
-        disks.new }
+    ensures leaves { LeavesFleet K.state R.may_say interlock.now (set_view media.now) link.old
+        link.new disks.old disks.new }
 {
     // For the proof: these do nothing.
     a_power_loss_takes_only_work::<K>();

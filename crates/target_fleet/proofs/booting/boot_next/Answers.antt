@@ -27,9 +27,7 @@ returns-in-Ok-boot-clause-booted g c = record {
   boots = subst (λ k. BootsUnit g.K.Disk.state g.R.Rule.may_say c.args.interlock.now (set_view c.args.media.now) c.in-Ok-boot.driver k c.boot.new.disk) (sym c.index-disks-index.is)
       (record {
         begins = c.in-Ok-boot.ensures.begins;
-        stands = c.in-Ok-boot.ensures.stands;
-        tied = c.in-Ok-boot.ensures.tied;
-        held = c.in-Ok-boot.ensures.held;
+        on_setting = c.in-Ok-boot.ensures.on_setting;
         lives = c.in-Ok-boot.ensures.lives;
         stood = c.in-Ok-boot.ensures.stood;
       });

@@ -1,10 +1,10 @@
 use Rattle.target_fleet.proofs.UnitEnds.{end_fails, end_leaves, ended_more, next_can}
 use Rattle.target_fleet.proofs.ending.end_each.Goals as goal
 
-pub end_next-requires-clause-goes_on : goal.end_next-requires-clause-goes_on
-end_next-requires-clause-goes_on g c =
+pub end_next-requires-clause-can : goal.end_next-requires-clause-can
+end_next-requires-clause-can g c =
     next_can g.K.Disk.state g.R.Rule.may_say c.args.drivers.now.items c.args.disks.now c.units.index c.units.drivers.items c.units.drivers.items c.units.ends.units.items c.units.ends.units.items c.units.ends.traces.items
-    c.units.ends.traces.items c.units.disks c.units.disks c.units.invariant c.requires.goes_on
+    c.units.ends.traces.items c.units.disks c.units.disks c.units.invariant c.requires.can
 
 pub returns-in-Err-clause-refused : goal.returns-in-Err-clause-refused
 returns-in-Err-clause-refused g c =

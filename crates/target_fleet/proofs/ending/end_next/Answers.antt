@@ -1,23 +1,17 @@
 use Rattle.std.proofs.Common.{◌≡◌, Some, length, refl, sym, ap, subst}
 use Rattle.std.specs.Prelude.{slice_get, slice_index_or, slice_set}
 use Rattle.std.proofs.lemmas.Option.{slice_get_read}
-use Rattle.replay_turns.specs.Turns.{RunsWhileUp}
+use Rattle.upload_replay.specs.Drivers.{CanEnd}
 use Rattle.target_fleet.specs.Ends.{FailsToEnd}
 use Rattle.target_fleet.proofs.Indexed.{added, set_same}
 use Rattle.target_fleet.proofs.UnitEnds.{driver_ended, fails_end, first_removed, first_taken, leaves_at}
 use Rattle.target_fleet.proofs.ending.end_next.Goals as goal
 
-pub end-requires-clause-goes_on : goal.end-requires-clause-goes_on
-end-requires-clause-goes_on g c =
+pub end-requires : goal.end-requires
+end-requires g c =
     let driver_there = ap (λ list. slice_get list 0) (first_removed c.args.drivers.now.items c.remove-driver.result c.requires.some c.remove-driver.ensures.value) in
     let disk_there = slice_get_read c.args.disks.now (length c.args.disks.now) c.args.index c.index-disks-index.result refl c.requires.within c.index-disks-index.is in
-    (c.requires.goes_on c.remove-driver.result c.index-disks-index.result driver_there disk_there).0
-
-pub end-requires-clause-running : goal.end-requires-clause-running
-end-requires-clause-running g c =
-    let driver_there = ap (λ list. slice_get list 0) (first_removed c.args.drivers.now.items c.remove-driver.result c.requires.some c.remove-driver.ensures.value) in
-    let disk_there = slice_get_read c.args.disks.now (length c.args.disks.now) c.args.index c.index-disks-index.result refl c.requires.within c.index-disks-index.is in
-    subst (λ k. RunsWhileUp c.remove-driver.result.target (g.K.Disk.state k)) c.index-disks-index.is (c.requires.goes_on c.remove-driver.result c.index-disks-index.result driver_there disk_there).1
+    subst (λ k. CanEnd c.remove-driver.result (g.K.Disk.state k)) c.index-disks-index.is (c.requires.can c.remove-driver.result c.index-disks-index.result driver_there disk_there)
 
 pub returns-in-Ok-end-clause-ended : goal.returns-in-Ok-end-clause-ended
 returns-in-Ok-end-clause-ended g c =
@@ -34,7 +28,7 @@ returns-in-Ok-end-clause-ended g c =
       after = c.end.new.disk;
       disk = record { there = subst (λ k. slice_get c.args.disks.now c.args.index ≡ Some k) c.index-disks-index.is disk_there; kept = refl };
       ended = driver_ended g.K.Disk.state g.R.Rule.may_say c.remove-driver.result disk c.end.new.disk c.in-Ok-end.drive c.without_end.result c.without_end.ensures
-          c.in-Ok-end.ensures.ended c.in-Ok-end.ensures.lives c.in-Ok-end.ensures.run c.in-Ok-end.ensures.moments c.in-Ok-end.ensures.rests c.in-Ok-end.ensures.unknown c.end.ensures.leaves;
+          c.in-Ok-end.ensures.ended c.in-Ok-end.ensures.lives c.in-Ok-end.ensures.run c.in-Ok-end.ensures.held c.in-Ok-end.ensures.unknown c.end.ensures.leaves;
     }
 
 pub returns-in-Ok-end-clause-leaves : goal.returns-in-Ok-end-clause-leaves

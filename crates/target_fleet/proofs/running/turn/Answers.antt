@@ -25,14 +25,17 @@ step_unit-requires-clause-can g c = λ d k e f.
     let gives = c.in-Some.ensures.some (waits_now drivers) (may_now (set_view c.args.media.now) c.args.units.now) (many_now drivers c.args.link.now.units c.requires.ready.drivers) in
     can_step g.K.Disk.state c.args.link.now c.args.units.now c.args.disks.now c.requires.ready c.in-Some.unit gives.unit.0 (happening_view c.in-Some.happening) gives.can d k e f
 
-pub returns-in_err-step_unit-in-Some-clause-count : goal.returns-in_err-step_unit-in-Some-clause-count
-returns-in_err-step_unit-in-Some-clause-count g c =
+pub returns-in_err-step_unit-in-Some-clause-as_many : goal.returns-in_err-step_unit-in-Some-clause-as_many
+returns-in_err-step_unit-in-Some-clause-as_many g c =
     let drivers = c.args.units.now.drivers in
     let gives = c.in-Some.ensures.some (waits_now drivers) (may_now (set_view c.args.media.now) c.args.units.now) (many_now drivers c.args.link.now.units c.requires.ready.drivers) in
-    elim c.in_err-step_unit-in-Some.ensures.left [
-      | inl left ↦ ap (λ (l : FleetLinkState). l.units) left.0 ∙ gives.units
-      | inr left ↦ ap (λ (l : FleetLinkState). l.units) left.part.linked ∙ gives.units
-    ]
+    record {
+      units = elim c.in_err-step_unit-in-Some.ensures.left [
+        | inl left ↦ ap (λ (l : FleetLinkState). l.units) left.0 ∙ gives.units
+        | inr left ↦ ap (λ (l : FleetLinkState). l.units) left.part.linked ∙ gives.units
+      ];
+      disks = c.step_unit.ensures.same;
+    }
 
 pub returns-in_err-step_unit-in-Some-clause-leaves : goal.returns-in_err-step_unit-in-Some-clause-leaves
 returns-in_err-step_unit-in-Some-clause-leaves g c = λ rule began first on.
@@ -60,8 +63,8 @@ returns-in_ok-step_unit-in-Some-clause-goes_on g c = λ rule began first on.
     unit_goes_on g.K.Disk.state g.R.Rule.may_say (set_view c.args.media.now) c.args.link.now c.next_of_finish.new.self c.args.units.now c.step_unit.new.units c.args.disks.now c.step_unit.new.disks c.requires.ready c.requires.batches waits may c.step_unit.new.link c.in-Some.unit (happening_view c.in-Some.happening) gives c.in_ok-step_unit-in-Some.ensures.steps
     rule began first on many (told_now drivers) refl
 
-pub returns-in_ok-step_unit-in-Some-clause-count : goal.returns-in_ok-step_unit-in-Some-clause-count
-returns-in_ok-step_unit-in-Some-clause-count g c =
+pub returns-in_ok-step_unit-in-Some-clause-as_many : goal.returns-in_ok-step_unit-in-Some-clause-as_many
+returns-in_ok-step_unit-in-Some-clause-as_many g c =
     let drivers = c.args.units.now.drivers in
     let gives = c.in-Some.ensures.some (waits_now drivers) (may_now (set_view c.args.media.now) c.args.units.now) (many_now drivers c.args.link.now.units c.requires.ready.drivers) in
-    ap (λ (l : FleetLinkState). l.units) c.in_ok-step_unit-in-Some.ensures.steps.linked ∙ gives.units
+    record { units = ap (λ (l : FleetLinkState). l.units) c.in_ok-step_unit-in-Some.ensures.steps.linked ∙ gives.units; disks = c.step_unit.ensures.same }

@@ -4,16 +4,13 @@ use Rattle.target_fleet.specs.AskedTurns.{AreBatchesReady}
 use Rattle.target_fleet.specs.Runs.{FleetGoesOn, IsFleetReady}
 use Rattle.target_fleet.proofs.FewTargets.{few_targets}
 use Rattle.target_fleet.proofs.UnitEnds.{all_leave_same}
-use Rattle.target_fleet.proofs.WholeFleet.{all_good, all_leave_end, all_leave_read, all_stood, fails_later, fleet_asked, fleet_begins, fleet_ended, fleet_follows, fleet_is_ready, fleet_kept, posts_counted, units_can_end, units_ended}
+use Rattle.target_fleet.proofs.WholeFleet.{all_leave_end, all_leave_read, all_stood, fails_later, fleet_asked, fleet_begins, fleet_ended, fleet_follows, fleet_is_ready, fleet_kept, left_of_fleet, posts_counted, units_can_end, units_ended}
 use Rattle.target_fleet.proofs.whole_run.fleet.Goals as goal
 
 pub returns-in-Err-clause-leaves : goal.returns-in-Err-clause-leaves
 returns-in-Err-clause-leaves g c =
-    all_leave_read g.K.Disk.state g.R.Rule.may_say c.args.interlock.now (set_view c.args.media.now) c.args.link.now c.requires.nothing_posted c.args.disks.now c.boot_all.new.disks c.boot_all.ensures.reads g.met.K.Disk.only_now (λ k image s loses told holds. c.a_power_loss_takes_only_work.ensures.holds k image s loses told holds)
-
-pub returns-in-Err-clause-good : goal.returns-in-Err-clause-good
-returns-in-Err-clause-good g c =
-    all_good g.K.Disk.state g.R.Rule.may_say c.args.interlock.now (set_view c.args.media.now) c.the_configuration_changes_by_good_verdicts.ensures.active c.args.link.now c.args.link.now c.args.disks.now c.boot_all.new.disks (returns-in-Err-clause-leaves g c)
+    left_of_fleet g.K.Disk.state g.R.Rule.may_say c.args.interlock.now (set_view c.args.media.now) c.the_configuration_changes_by_good_verdicts.ensures.active c.args.link.now c.args.link.now c.args.disks.now c.boot_all.new.disks c.boot_all.ensures.same
+    (all_leave_read g.K.Disk.state g.R.Rule.may_say c.args.interlock.now (set_view c.args.media.now) c.args.link.now c.requires.nothing_posted c.args.disks.now c.boot_all.new.disks c.boot_all.ensures.reads g.met.K.Disk.only_now (λ k image s loses told holds. c.a_power_loss_takes_only_work.ensures.holds k image s loses told holds))
 
 pub run_to_end-requires-clause-ready : goal.run_to_end-requires-clause-ready
 run_to_end-requires-clause-ready g c =
@@ -35,11 +32,8 @@ pub returns-in-Err-run_to_end-clause-leaves : goal.returns-in-Err-run_to_end-cla
 returns-in-Err-run_to_end-clause-leaves g c =
     let begins : FleetGoesOn g.K.Disk.state g.R.Rule.may_say c.args.interlock.now (set_view c.args.media.now) false c.args.link.now c.args.link.now (record { drivers = c.in-Ok.drivers.items; order = c.new.result; running = c.new-2.result.running; ended = c.new-2.result.ended.items }) c.args.disks.now c.boot_all.new.disks =
     rw (c.new.ensures, c.new-2.ensures.running, c.new-2.ensures.ended) (fleet_begins g.K.Disk.state g.R.Rule.may_say c.args.interlock.now (set_view c.args.media.now) c.args.link.now c.requires.nothing_posted c.in-Ok.drivers.items c.args.disks.now c.boot_all.new.disks c.in-Ok.ensures.many c.boot_all.ensures.same c.in-Ok.ensures.boots c.boot_all.ensures.reads) in
-    c.in-Err-run_to_end.ensures.leaves c.args.interlock.now c.args.link.now c.args.disks.now begins
-
-pub returns-in-Err-run_to_end-clause-good : goal.returns-in-Err-run_to_end-clause-good
-returns-in-Err-run_to_end-clause-good g c =
-    all_good g.K.Disk.state g.R.Rule.may_say c.args.interlock.now (set_view c.args.media.now) c.the_configuration_changes_by_good_verdicts.ensures.active c.args.link.now c.run_to_end.new.link c.args.disks.now c.run_to_end.new.disks (returns-in-Err-run_to_end-clause-leaves g c)
+    left_of_fleet g.K.Disk.state g.R.Rule.may_say c.args.interlock.now (set_view c.args.media.now) c.the_configuration_changes_by_good_verdicts.ensures.active c.args.link.now c.run_to_end.new.link c.args.disks.now c.run_to_end.new.disks (c.run_to_end.ensures.same ∙ c.boot_all.ensures.same)
+    (c.in-Err-run_to_end.ensures.leaves c.args.interlock.now c.args.link.now c.args.disks.now begins)
 
 pub returns-in-Err-end-clause-refused : goal.returns-in-Err-end-clause-refused
 returns-in-Err-end-clause-refused g c =
@@ -52,14 +46,11 @@ returns-in-Err-end-clause-leaves g c =
     let on = subst (λ units. FleetGoesOn g.K.Disk.state g.R.Rule.may_say c.args.interlock.now (set_view c.args.media.now) true c.args.link.now c.run_to_end.new.link units c.args.disks.now c.run_to_end.new.disks) (sym c.units-2.view_is)
     (c.in-Ok-run_to_end.ensures.goes_on c.args.interlock.now c.args.link.now c.args.disks.now begins) in
     let ready = subst (λ units. IsFleetReady g.K.Disk.state c.run_to_end.new.link units c.run_to_end.new.disks) (sym c.units-2.view_is) c.in-Ok-run_to_end.ensures.ready in
-    all_leave_end g.K.Disk.state g.R.Rule.may_say c.args.interlock.now (set_view c.args.media.now) c.args.link.now c.run_to_end.new.link (record { drivers = c.units-2.inside.drivers.items; order = c.units-2.inside.order; running = c.units-2.inside.batches.running; ended = c.units-2.inside.batches.ended.items }) c.args.disks.now c.run_to_end.new.disks c.run_to_end.new.disks on ready refl g.met.K.Disk.wider g.met.K.Disk.splits g.met.K.Disk.only_now (all_leave_same g.K.Disk.state c.run_to_end.new.disks)
+    left_of_fleet g.K.Disk.state g.R.Rule.may_say c.args.interlock.now (set_view c.args.media.now) c.the_configuration_changes_by_good_verdicts.ensures.active c.args.link.now c.run_to_end.new.link c.args.disks.now c.run_to_end.new.disks (c.run_to_end.ensures.same ∙ c.boot_all.ensures.same)
+    (all_leave_end g.K.Disk.state g.R.Rule.may_say c.args.interlock.now (set_view c.args.media.now) c.args.link.now c.run_to_end.new.link (record { drivers = c.units-2.inside.drivers.items; order = c.units-2.inside.order; running = c.units-2.inside.batches.running; ended = c.units-2.inside.batches.ended.items }) c.args.disks.now c.run_to_end.new.disks c.run_to_end.new.disks on ready refl g.met.K.Disk.wider g.met.K.Disk.splits g.met.K.Disk.only_now (all_leave_same g.K.Disk.state c.run_to_end.new.disks))
 
-pub returns-in-Err-end-clause-good : goal.returns-in-Err-end-clause-good
-returns-in-Err-end-clause-good g c =
-    all_good g.K.Disk.state g.R.Rule.may_say c.args.interlock.now (set_view c.args.media.now) c.the_configuration_changes_by_good_verdicts.ensures.active c.args.link.now c.run_to_end.new.link c.args.disks.now c.run_to_end.new.disks (returns-in-Err-end-clause-leaves g c)
-
-pub end_all-requires-clause-goes_on : goal.end_all-requires-clause-goes_on
-end_all-requires-clause-goes_on g c =
+pub end_all-requires-clause-can : goal.end_all-requires-clause-can
+end_all-requires-clause-can g c =
     let begins : FleetGoesOn g.K.Disk.state g.R.Rule.may_say c.args.interlock.now (set_view c.args.media.now) false c.args.link.now c.args.link.now (record { drivers = c.in-Ok.drivers.items; order = c.new.result; running = c.new-2.result.running; ended = c.new-2.result.ended.items }) c.args.disks.now c.boot_all.new.disks =
     rw (c.new.ensures, c.new-2.ensures.running, c.new-2.ensures.ended) (fleet_begins g.K.Disk.state g.R.Rule.may_say c.args.interlock.now (set_view c.args.media.now) c.args.link.now c.requires.nothing_posted c.in-Ok.drivers.items c.args.disks.now c.boot_all.new.disks c.in-Ok.ensures.many c.boot_all.ensures.same c.in-Ok.ensures.boots c.boot_all.ensures.reads) in
     let on = subst (λ units. FleetGoesOn g.K.Disk.state g.R.Rule.may_say c.args.interlock.now (set_view c.args.media.now) true c.args.link.now c.run_to_end.new.link units c.args.disks.now c.run_to_end.new.disks) (sym c.units-2.view_is)
@@ -130,11 +121,8 @@ returns-in-Ok-end_all-clause-leaves g c =
     let on = subst (λ units. FleetGoesOn g.K.Disk.state g.R.Rule.may_say c.args.interlock.now (set_view c.args.media.now) true c.args.link.now c.run_to_end.new.link units c.args.disks.now c.run_to_end.new.disks) (sym c.units-2.view_is)
     (c.in-Ok-run_to_end.ensures.goes_on c.args.interlock.now c.args.link.now c.args.disks.now begins) in
     let ready = subst (λ units. IsFleetReady g.K.Disk.state c.run_to_end.new.link units c.run_to_end.new.disks) (sym c.units-2.view_is) c.in-Ok-run_to_end.ensures.ready in
-    all_leave_end g.K.Disk.state g.R.Rule.may_say c.args.interlock.now (set_view c.args.media.now) c.args.link.now c.run_to_end.new.link (record { drivers = c.units-2.inside.drivers.items; order = c.units-2.inside.order; running = c.units-2.inside.batches.running; ended = c.units-2.inside.batches.ended.items }) c.args.disks.now c.run_to_end.new.disks c.end_all.new.disks on ready c.end_all.ensures.same g.met.K.Disk.wider g.met.K.Disk.splits g.met.K.Disk.only_now c.end_all.ensures.leaves
-
-pub returns-in-Ok-end_all-clause-good : goal.returns-in-Ok-end_all-clause-good
-returns-in-Ok-end_all-clause-good g c =
-    all_good g.K.Disk.state g.R.Rule.may_say c.args.interlock.now (set_view c.args.media.now) c.the_configuration_changes_by_good_verdicts.ensures.active c.args.link.now c.run_to_end.new.link c.args.disks.now c.end_all.new.disks (returns-in-Ok-end_all-clause-leaves g c)
+    left_of_fleet g.K.Disk.state g.R.Rule.may_say c.args.interlock.now (set_view c.args.media.now) c.the_configuration_changes_by_good_verdicts.ensures.active c.args.link.now c.run_to_end.new.link c.args.disks.now c.end_all.new.disks (c.end_all.ensures.same ∙ (c.run_to_end.ensures.same ∙ c.boot_all.ensures.same))
+    (all_leave_end g.K.Disk.state g.R.Rule.may_say c.args.interlock.now (set_view c.args.media.now) c.args.link.now c.run_to_end.new.link (record { drivers = c.units-2.inside.drivers.items; order = c.units-2.inside.order; running = c.units-2.inside.batches.running; ended = c.units-2.inside.batches.ended.items }) c.args.disks.now c.run_to_end.new.disks c.end_all.new.disks on ready c.end_all.ensures.same g.met.K.Disk.wider g.met.K.Disk.splits g.met.K.Disk.only_now c.end_all.ensures.leaves)
 
 pub returns-in-Err-end_all-clause-leaves : goal.returns-in-Err-end_all-clause-leaves
 returns-in-Err-end_all-clause-leaves g c =
@@ -143,11 +131,8 @@ returns-in-Err-end_all-clause-leaves g c =
     let on = subst (λ units. FleetGoesOn g.K.Disk.state g.R.Rule.may_say c.args.interlock.now (set_view c.args.media.now) true c.args.link.now c.run_to_end.new.link units c.args.disks.now c.run_to_end.new.disks) (sym c.units-2.view_is)
     (c.in-Ok-run_to_end.ensures.goes_on c.args.interlock.now c.args.link.now c.args.disks.now begins) in
     let ready = subst (λ units. IsFleetReady g.K.Disk.state c.run_to_end.new.link units c.run_to_end.new.disks) (sym c.units-2.view_is) c.in-Ok-run_to_end.ensures.ready in
-    all_leave_end g.K.Disk.state g.R.Rule.may_say c.args.interlock.now (set_view c.args.media.now) c.args.link.now c.run_to_end.new.link (record { drivers = c.units-2.inside.drivers.items; order = c.units-2.inside.order; running = c.units-2.inside.batches.running; ended = c.units-2.inside.batches.ended.items }) c.args.disks.now c.run_to_end.new.disks c.end_all.new.disks on ready c.end_all.ensures.same g.met.K.Disk.wider g.met.K.Disk.splits g.met.K.Disk.only_now c.end_all.ensures.leaves
-
-pub returns-in-Err-end_all-clause-good : goal.returns-in-Err-end_all-clause-good
-returns-in-Err-end_all-clause-good g c =
-    all_good g.K.Disk.state g.R.Rule.may_say c.args.interlock.now (set_view c.args.media.now) c.the_configuration_changes_by_good_verdicts.ensures.active c.args.link.now c.run_to_end.new.link c.args.disks.now c.end_all.new.disks (returns-in-Err-end_all-clause-leaves g c)
+    left_of_fleet g.K.Disk.state g.R.Rule.may_say c.args.interlock.now (set_view c.args.media.now) c.the_configuration_changes_by_good_verdicts.ensures.active c.args.link.now c.run_to_end.new.link c.args.disks.now c.end_all.new.disks (c.end_all.ensures.same ∙ (c.run_to_end.ensures.same ∙ c.boot_all.ensures.same))
+    (all_leave_end g.K.Disk.state g.R.Rule.may_say c.args.interlock.now (set_view c.args.media.now) c.args.link.now c.run_to_end.new.link (record { drivers = c.units-2.inside.drivers.items; order = c.units-2.inside.order; running = c.units-2.inside.batches.running; ended = c.units-2.inside.batches.ended.items }) c.args.disks.now c.run_to_end.new.disks c.end_all.new.disks on ready c.end_all.ensures.same g.met.K.Disk.wider g.met.K.Disk.splits g.met.K.Disk.only_now c.end_all.ensures.leaves)
 
 pub returns-in-Err-end_all-clause-refused : goal.returns-in-Err-end_all-clause-refused
 returns-in-Err-end_all-clause-refused g c =
