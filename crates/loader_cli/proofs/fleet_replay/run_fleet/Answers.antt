@@ -24,7 +24,7 @@ returns-in-Ok-clause-runs g c =
     (fleet_ran g.K.Disk.state _ _ set (λ fields kept answer said. said.says ∙ ap (λ h. permits h kept) said.same) c.args.script.lines c.fleet.new.link run old new
     c.can_be_told.ensures c.what_a_disk_holds_can_be_listed.ensures.fits c.a_last_finish_is_left.ensures.power
     (λ sets asks unit sessions standing. c.a_fleets_last_finish_completes.ensures (length old) sets asks c.args.script.lines _ unit sessions standing)
-    _ begins c.in-Ok.ensures.ended c.in-Ok.ensures.units c.fleet.ensures.leaves c.in-Ok.ensures.follows c.in-Ok.ensures.batches)
+    _ begins c.in-Ok.ensures.ended c.in-Ok.ensures.units c.fleet.ensures.leaves.history c.in-Ok.ensures.follows c.in-Ok.ensures.batches)
     c.in_ok-answer-in-Ok.ensures
 
 pub returns-in-Err-Disk-clause-runs : goal.returns-in-Err-Disk-clause-runs
@@ -41,48 +41,48 @@ returns-in-Err-NoConfig-clause-runs g c =
 pub returns-in-Ok-clause-left : goal.returns-in-Ok-clause-left
 returns-in-Ok-clause-left g c =
     record {
-      as_many = c.fleet.ensures.same;
-      held = inr (all_stood g.K.Disk.state _ _ (set_view c.args.set.now) (λ fields kept answer said. said.says ∙ ap (λ h. permits h kept) said.same) c.in-Ok.run' c.args.disks.now c.fleet.new.disks (c.in-Ok.ensures.ended.units ∙ (ap (λ (link : FleetLinkState). link.units) c.new-link.ensures ∙ c.requires.units)) c.fleet.ensures.same c.in-Ok.ensures.units);
-      leaves = fleet_leaves g.K.Disk.state _ _ (set_view c.args.set.now) (λ fields kept answer said. said.says ∙ ap (λ h. permits h kept) said.same) c.args.disks.now c.fleet.new.disks c.fleet.ensures.good;
+      as_many = c.fleet.ensures.leaves.same;
+      held = inr (all_stood g.K.Disk.state _ _ (set_view c.args.set.now) (λ fields kept answer said. said.says ∙ ap (λ h. permits h kept) said.same) c.in-Ok.run' c.args.disks.now c.fleet.new.disks (c.in-Ok.ensures.ended.units ∙ (ap (λ (link : FleetLinkState). link.units) c.new-link.ensures ∙ c.requires.units)) c.fleet.ensures.leaves.same c.in-Ok.ensures.units);
+      leaves = fleet_leaves g.K.Disk.state _ _ (set_view c.args.set.now) (λ fields kept answer said. said.says ∙ ap (λ h. permits h kept) said.same) c.args.disks.now c.fleet.new.disks c.fleet.ensures.leaves.good;
     }
 
 pub returns-in_err-answer-in-Ok-clause-left : goal.returns-in_err-answer-in-Ok-clause-left
 returns-in_err-answer-in-Ok-clause-left g c =
     record {
-      as_many = c.fleet.ensures.same;
-      held = inr (all_stood g.K.Disk.state _ _ (set_view c.args.set.now) (λ fields kept answer said. said.says ∙ ap (λ h. permits h kept) said.same) c.in-Ok.run' c.args.disks.now c.fleet.new.disks (c.in-Ok.ensures.ended.units ∙ (ap (λ (link : FleetLinkState). link.units) c.new-link.ensures ∙ c.requires.units)) c.fleet.ensures.same c.in-Ok.ensures.units);
-      leaves = fleet_leaves g.K.Disk.state _ _ (set_view c.args.set.now) (λ fields kept answer said. said.says ∙ ap (λ h. permits h kept) said.same) c.args.disks.now c.fleet.new.disks c.fleet.ensures.good;
+      as_many = c.fleet.ensures.leaves.same;
+      held = inr (all_stood g.K.Disk.state _ _ (set_view c.args.set.now) (λ fields kept answer said. said.says ∙ ap (λ h. permits h kept) said.same) c.in-Ok.run' c.args.disks.now c.fleet.new.disks (c.in-Ok.ensures.ended.units ∙ (ap (λ (link : FleetLinkState). link.units) c.new-link.ensures ∙ c.requires.units)) c.fleet.ensures.leaves.same c.in-Ok.ensures.units);
+      leaves = fleet_leaves g.K.Disk.state _ _ (set_view c.args.set.now) (λ fields kept answer said. said.says ∙ ap (λ h. permits h kept) said.same) c.args.disks.now c.fleet.new.disks c.fleet.ensures.leaves.good;
     }
 
 pub returns-in-Err-Disk-clause-left : goal.returns-in-Err-Disk-clause-left
 returns-in-Err-Disk-clause-left g c =
     record {
-      as_many = c.fleet.ensures.same;
+      as_many = c.fleet.ensures.leaves.same;
       held = refused_held g.K.Disk.state c.args.disks.now c.fleet.new.disks c.in-Err-Disk.field-0 c.in-Err-Disk.ensures.refused;
-      leaves = fleet_leaves g.K.Disk.state _ _ (set_view c.args.set.now) (λ fields kept answer said. said.says ∙ ap (λ h. permits h kept) said.same) c.args.disks.now c.fleet.new.disks c.fleet.ensures.good;
+      leaves = fleet_leaves g.K.Disk.state _ _ (set_view c.args.set.now) (λ fields kept answer said. said.says ∙ ap (λ h. permits h kept) said.same) c.args.disks.now c.fleet.new.disks c.fleet.ensures.leaves.good;
     }
 
 pub returns-in-Err-NoConfig-clause-left : goal.returns-in-Err-NoConfig-clause-left
 returns-in-Err-NoConfig-clause-left g c =
     record {
-      as_many = c.fleet.ensures.same;
+      as_many = c.fleet.ensures.leaves.same;
       held = refused_held g.K.Disk.state c.args.disks.now c.fleet.new.disks c.in-Err-NoConfig.field-0 c.in-Err-NoConfig.ensures.refused;
-      leaves = fleet_leaves g.K.Disk.state _ _ (set_view c.args.set.now) (λ fields kept answer said. said.says ∙ ap (λ h. permits h kept) said.same) c.args.disks.now c.fleet.new.disks c.fleet.ensures.good;
+      leaves = fleet_leaves g.K.Disk.state _ _ (set_view c.args.set.now) (λ fields kept answer said. said.says ∙ ap (λ h. permits h kept) said.same) c.args.disks.now c.fleet.new.disks c.fleet.ensures.leaves.good;
     }
 
 pub returns-clause-left : goal.returns-clause-left
 returns-clause-left g c =
     record {
-      as_many = c.fleet.ensures.same;
+      as_many = c.fleet.ensures.leaves.same;
       held = refused_held g.K.Disk.state c.args.disks.now c.fleet.new.disks c.in-Err-Memory.field-0 c.in-Err-Memory.ensures.refused;
-      leaves = fleet_leaves g.K.Disk.state _ _ (set_view c.args.set.now) (λ fields kept answer said. said.says ∙ ap (λ h. permits h kept) said.same) c.args.disks.now c.fleet.new.disks c.fleet.ensures.good;
+      leaves = fleet_leaves g.K.Disk.state _ _ (set_view c.args.set.now) (λ fields kept answer said. said.says ∙ ap (λ h. permits h kept) said.same) c.args.disks.now c.fleet.new.disks c.fleet.ensures.leaves.good;
     }
 
 pub returns-in_err-answer-in-Ok-clause-memory : goal.returns-in_err-answer-in-Ok-clause-memory
 returns-in_err-answer-in-Ok-clause-memory g c =
     anyway c.from_residual.result _
     (inr (inr (all_stood g.K.Disk.state _ _ (set_view c.args.set.now) (λ fields kept answer said. said.says ∙ ap (λ h. permits h kept) said.same) c.in-Ok.run' c.args.disks.now c.fleet.new.disks
-    (c.in-Ok.ensures.ended.units ∙ (ap (λ (link : FleetLinkState). link.units) c.new-link.ensures ∙ c.requires.units)) c.fleet.ensures.same c.in-Ok.ensures.units)))
+    (c.in-Ok.ensures.ended.units ∙ (ap (λ (link : FleetLinkState). link.units) c.new-link.ensures ∙ c.requires.units)) c.fleet.ensures.leaves.same c.in-Ok.ensures.units)))
 
 pub returns-clause-memory : goal.returns-clause-memory
 returns-clause-memory g c = refused_memory g.K.Disk.state c.args.disks.now c.fleet.new.disks c.in-Err-Memory.field-0-is c.in-Err-Memory.ensures.refused

@@ -25,15 +25,15 @@ returns-in-Ok-clause-runs g c =
     let is : (start : StandingView) (image : Image) → old.reads ≡ Some image → HoldsConfig image start → NeverBoots (steps_of run.trace.items) ⊎ LosesOnlyWork old → IsScriptRun set c.args.script start (run_seen run)
     = λ start image told holds all. script_run set c.args.script start (run_seen run) c.drive.new.link c.can_be_told.ensures (c.what_a_disk_holds_can_be_listed.ensures.fits image start holds) c.in-Ok.ensures.ended.ordered
     (subst (λ (began : LinkState). IsDrivenRun (setting_of set start) began c.drive.new.link (steps_of run.trace.items) (run_seen run).sessions (run_seen run).standing) c.new-link.ensures
-    (c.in-Ok.ensures.run (setting_of set start) image (record { media = refl; accepts = λ fields kept answer said. said.says ∙ ap (λ h. permits h kept) said.same; start = holds }) told all)) in
+    ((c.in-Ok.ensures.on_setting (setting_of set start) image (record { media = refl; accepts = λ fields kept answer said. said.says ∙ ap (λ h. permits h kept) said.same; start = holds }) told).run all)) in
     let began : c.new-link.result.given ≡ [] = ap (λ (l : LinkState). l.given) c.new-link.ensures in
     let counts : CountsPower (steps_of run.trace.items) old new
     = counts_power (steps_of run.trace.items) run.standing old new _ _ began c.in-Ok.ensures.ended.stops c.in-Ok.ensures.ended.told.given c.drive.ensures.arms in
     let runs : RunsScript set c.args.script old new (run_seen run) = λ start image told holds. (
       is start image told holds,
       λ loses. held_run set c.args.script start old new (run_seen run) c.a_last_finish_is_left.ensures.power c.can_be_told.ensures (c.what_a_disk_holds_can_be_listed.ensures.fits image start holds) (is start image told holds (inr loses)) counts.stops
-          (c.in-Ok.ensures.moments (setting_of set start) image (record { media = refl; accepts = λ fields kept answer said. said.says ∙ ap (λ h. permits h kept) said.same; start = holds }) told loses)
-          (some_standing run.standing _ (c.in-Ok.ensures.rests (setting_of set start) image (record { media = refl; accepts = λ fields kept answer said. said.says ∙ ap (λ h. permits h kept) said.same; start = holds }) told loses)),
+          ((c.in-Ok.ensures.on_setting (setting_of set start) image (record { media = refl; accepts = λ fields kept answer said. said.says ∙ ap (λ h. permits h kept) said.same; start = holds }) told).moments loses)
+          (some_standing run.standing _ ((c.in-Ok.ensures.on_setting (setting_of set start) image (record { media = refl; accepts = λ fields kept answer said. said.says ∙ ap (λ h. permits h kept) said.same; start = holds }) told).rests loses)),
     ) in
     let any : IsAnyRun set old new (run_seen run) = record {
       counts = counts;
@@ -62,27 +62,27 @@ returns-in-Err-NoConfig-clause-runs g c =
 pub returns-in-Ok-clause-leaves : goal.returns-in-Ok-clause-leaves
 returns-in-Ok-clause-leaves g c =
     run_leaves (set_view c.args.set.now) (g.K.Disk.state c.args.disk.now) (g.K.Disk.state c.drive.new.disk) (λ start image told holds loses.
-    c.drive.ensures.good (setting_of (set_view c.args.set.now) start) image (record { media = refl; accepts = λ fields kept answer said. said.says ∙ ap (λ h. permits h kept) said.same; start = holds }) told loses accepts_permitted)
+    (c.drive.ensures.leaves (setting_of (set_view c.args.set.now) start) image (record { media = refl; accepts = λ fields kept answer said. said.says ∙ ap (λ h. permits h kept) said.same; start = holds }) told loses).good accepts_permitted)
 
 pub returns-in_err-answer-in-Ok-clause-leaves : goal.returns-in_err-answer-in-Ok-clause-leaves
 returns-in_err-answer-in-Ok-clause-leaves g c =
     run_leaves (set_view c.args.set.now) (g.K.Disk.state c.args.disk.now) (g.K.Disk.state c.drive.new.disk) (λ start image told holds loses.
-    c.drive.ensures.good (setting_of (set_view c.args.set.now) start) image (record { media = refl; accepts = λ fields kept answer said. said.says ∙ ap (λ h. permits h kept) said.same; start = holds }) told loses accepts_permitted)
+    (c.drive.ensures.leaves (setting_of (set_view c.args.set.now) start) image (record { media = refl; accepts = λ fields kept answer said. said.says ∙ ap (λ h. permits h kept) said.same; start = holds }) told loses).good accepts_permitted)
 
 pub returns-in-Err-Disk-clause-leaves : goal.returns-in-Err-Disk-clause-leaves
 returns-in-Err-Disk-clause-leaves g c =
     run_leaves (set_view c.args.set.now) (g.K.Disk.state c.args.disk.now) (g.K.Disk.state c.drive.new.disk) (λ start image told holds loses.
-    c.drive.ensures.good (setting_of (set_view c.args.set.now) start) image (record { media = refl; accepts = λ fields kept answer said. said.says ∙ ap (λ h. permits h kept) said.same; start = holds }) told loses accepts_permitted)
+    (c.drive.ensures.leaves (setting_of (set_view c.args.set.now) start) image (record { media = refl; accepts = λ fields kept answer said. said.says ∙ ap (λ h. permits h kept) said.same; start = holds }) told loses).good accepts_permitted)
 
 pub returns-in-Err-NoConfig-clause-leaves : goal.returns-in-Err-NoConfig-clause-leaves
 returns-in-Err-NoConfig-clause-leaves g c =
     run_leaves (set_view c.args.set.now) (g.K.Disk.state c.args.disk.now) (g.K.Disk.state c.drive.new.disk) (λ start image told holds loses.
-    c.drive.ensures.good (setting_of (set_view c.args.set.now) start) image (record { media = refl; accepts = λ fields kept answer said. said.says ∙ ap (λ h. permits h kept) said.same; start = holds }) told loses accepts_permitted)
+    (c.drive.ensures.leaves (setting_of (set_view c.args.set.now) start) image (record { media = refl; accepts = λ fields kept answer said. said.says ∙ ap (λ h. permits h kept) said.same; start = holds }) told loses).good accepts_permitted)
 
 pub returns-in-Err-Memory-clause-leaves : goal.returns-in-Err-Memory-clause-leaves
 returns-in-Err-Memory-clause-leaves g c =
     run_leaves (set_view c.args.set.now) (g.K.Disk.state c.args.disk.now) (g.K.Disk.state c.drive.new.disk) (λ start image told holds loses.
-    c.drive.ensures.good (setting_of (set_view c.args.set.now) start) image (record { media = refl; accepts = λ fields kept answer said. said.says ∙ ap (λ h. permits h kept) said.same; start = holds }) told loses accepts_permitted)
+    (c.drive.ensures.leaves (setting_of (set_view c.args.set.now) start) image (record { media = refl; accepts = λ fields kept answer said. said.says ∙ ap (λ h. permits h kept) said.same; start = holds }) told loses).good accepts_permitted)
 
 pub unreachable-requires : goal.unreachable-requires
 unreachable-requires g c =
